@@ -1,2 +1,11 @@
-//! The outside of the programs: where bytes come from, where they go, and who is told of each step.
+//! What a document declares, and how its bytes are read.
 #![tactic(auto)]
+
+mod document;
+mod expression;
+mod item;
+pub mod lex;
+
+pub use document::{Doc, LineMeaning};
+pub use expression::Expr;
+pub use item::{Item, Param};

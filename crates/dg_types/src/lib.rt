@@ -1,2 +1,12 @@
-//! The outside of the programs: where bytes come from, where they go, and who is told of each step.
+//! Names, texts, and the types that declarations use.
 #![tactic(auto)]
+
+mod memory;
+mod name;
+mod shape;
+mod text;
+
+pub use memory::NoMemory;
+pub use name::Name;
+pub use shape::{Shape, TypeUse};
+pub use text::Text;

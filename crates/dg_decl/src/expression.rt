@@ -1,0 +1,11 @@
+use dg_types::{Name, Text};
+use sqlite_items::Items;
+
+/// What a member gives.
+#[derive(Debug, Drop)]
+pub enum Expr {
+    /// A text, by its value.
+    Text(Text),
+    /// A new object of the class, with its fields in declared order.
+    New { class: Name, args: Items<Expr> },
+}

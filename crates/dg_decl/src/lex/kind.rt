@@ -1,0 +1,124 @@
+//! What a token is, by all of its bytes.
+
+ghost use Rattle.std.specs.Prelude.{◌≡◌, false};
+ghost use Rattle.dg_decl.specs.Bytes as bytes;
+ghost use Rattle.dg_decl.specs.Tokens as spec;
+
+use crate::lex::extent::is_word_byte;
+use crate::lex::number::value_of_digits;
+use crate::lex::token::TokenKind;
+
+/// The most bytes of a name.
+const NAME_LIMIT: usize = 64;
+
+const SIGNS: &[u8] = b"(){}<>,:=.!?[]+";
+
+fn is_reserved(z: &[u8]) -> bool
+    ensures exact { result ≡ bytes.is_among z.now spec.reserved }
+{
+    z == b"new".as_slice() || z == b"if".as_slice() || z == b"then".as_slice() || z == b"else".as_slice() || z == b"await".as_slice()
+}
+
+fn is_name(z: &[u8]) -> bool
+    ensures exact { result ≡ spec.is_name z.now }
+{
+    let begins = match z {
+        [first, ..] => first.is_ascii_alphabetic(),
+        [] => false,
+    };
+    begins && z.iter().all(|b| is_word_byte(*b)) && z.len() <= NAME_LIMIT && !is_reserved(z)
+}
+
+fn is_at_name(z: &[u8]) -> bool
+    ensures exact { result ≡ spec.is_at_name z.now }
+{
+    match z {
+        [b'@', name @ ..] => is_name(name),
+        _ => false,
+    }
+}
+
+fn is_counting(z: &[u8]) -> bool
+    ensures exact { result ≡ spec.is_counting z.now }
+{
+    match z {
+        [b'0', ..] => false,
+        [] => false,
+        _ => z.iter().all(|b| b.is_ascii_digit()),
+    }
+}
+
+fn is_integer(z: &[u8]) -> bool
+    ensures exact { result ≡ spec.is_integer z.now }
+{
+    if let [b'-', digits @ ..] = z {
+        return is_counting(digits)
+            && value_of_digits(digits).is_some_and(|value| value <= 1 << 63);
+    }
+    z == b"0".as_slice() || (is_counting(z) && value_of_digits(z).is_some_and(|value| value < 1 << 63))
+}
+
+/// Whether this stands behind the opening quote of a text, with the closing quote at its end.
+fn is_rest_of_text(z: &[u8]) -> bool
+    ensures exact { result ≡ spec.is_rest_of_text false z.now }
+{
+    let mut escaped = false;
+    let mut rest = z;
+    while let [b, more @ ..] = rest {
+        if escaped {
+            if *b != b'"' && *b != b'\\' {
+                return false;
+            }
+            escaped = false;
+        } else {
+            if *b == b'"' {
+                return more.is_empty();
+            }
+            if *b < 32 || *b > 126 {
+                return false;
+            }
+            escaped = *b == b'\\';
+        }
+        rest = more;
+    }
+    false
+}
+
+fn is_text(z: &[u8]) -> bool
+    ensures exact { result ≡ spec.is_text z.now }
+{
+    match z {
+        [b'"', rest @ ..] => is_rest_of_text(rest),
+        _ => false,
+    }
+}
+
+fn is_sign(z: &[u8]) -> bool
+    ensures exact { result ≡ spec.is_sign z.now }
+{
+    match z {
+        [b] => SIGNS.contains(b),
+        _ => z == b"==".as_slice(),
+    }
+}
+
+/// The kind of a token of just these bytes, or None where they are no token.
+pub fn kind_of(z: &[u8]) -> Option<TokenKind>
+    ensures exact { result ≡ spec.kind_of z.now }
+{
+    if is_name(z) {
+        Some(TokenKind::Name)
+    } else if is_reserved(z) {
+        Some(TokenKind::Word)
+    } else if is_at_name(z) {
+        Some(TokenKind::AtName)
+    } else if is_integer(z) {
+        Some(TokenKind::Integer)
+    } else if is_text(z) {
+        Some(TokenKind::Text)
+    } else if is_sign(z) {
+        Some(TokenKind::Sign)
+    } else {
+        None
+    }
+}
