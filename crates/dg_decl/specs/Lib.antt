@@ -1,3 +1,10 @@
 pub mod Bytes
 pub mod Tokens
 pub mod LexFaults
+pub mod Lines
+pub mod Forms
+pub mod Meaning
+pub mod Blocks
+pub mod Lookup
+pub mod Conditions
+pub mod Reading

@@ -5,7 +5,9 @@ mod document;
 mod expression;
 mod item;
 pub mod lex;
+mod reading;
 
 pub use document::{Doc, LineMeaning};
 pub use expression::Expr;
 pub use item::{Item, Param};
+pub use reading::one_reading;

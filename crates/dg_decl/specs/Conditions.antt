@@ -1,0 +1,162 @@
+-- What an item asks of the items before it.
+use Rattle.std.specs.Prelude.{ℕ, Bool, true, false, not, ◌&&◌, ◌||◌, List, [], ◌∷◌, length, map, Option, Some, None, is_some, is_none, if◌then◌else◌, ◌==◌, codes, option_and_then}
+use Rattle.std.specs.Str.{bytes_eq}
+use Rattle.std.specs.List.{filter_map, list_any, list_all, zip}
+use Rattle.dg_types.specs.declared.shape.Shape.{Shape}
+use Rattle.dg_types.specs.declared.shape.Shape.TheVariants as shape
+use Rattle.dg_types.specs.declared.shape.TypeUse.{TypeUse}
+use Rattle.dg_decl.specs.declared.expression.Expr.{Expr, Expr-F, out-Expr}
+use Rattle.dg_decl.specs.declared.item.Item.{Item}
+use Rattle.dg_decl.specs.declared.item.Item.TheVariants.{Class, Module, Component, Provides, Entry, End, OpenLine, AskLine}
+use Rattle.dg_decl.specs.declared.item.Param.{Param}
+use Rattle.dg_decl.specs.Bytes.{Bytes, is_among}
+use Rattle.dg_decl.specs.Blocks.{open_block, in_open_block, is_module_header, is_component_header}
+use Rattle.dg_decl.specs.Lookup.{params_of, modules_of, class_of, entry_of, bindings}
+
+-- ---- the block
+
+-- whether an item may stand in the block with this header, or outside blocks where there is none
+abbrev pub may_stand : Option Item → Item → Bool
+may_stand header (Class n ps) = is_none header
+may_stand header (Module n) = is_none header
+may_stand header (Component n ms) = is_none header
+may_stand header (Provides n t b) = is_module_header header
+may_stand header (Entry n t) = is_component_header header
+may_stand header End = is_some header
+may_stand header (OpenLine n c) = is_none header
+may_stand header (AskLine i e) = is_none header
+
+-- ---- names
+
+-- names that no document declares: those of types, of Hilt's annotations, components, scopes and default bindings
+abbrev pub predefined : List Bytes
+predefined =
+    codes "Text" ∷ codes "Int" ∷ codes "Set" ∷ codes "Map" ∷ codes "Optional" ∷ codes "Provider" ∷ codes "Lazy"
+    ∷ codes "Producer" ∷ codes "Produced" ∷ codes "Named"
+    ∷ codes "Inject" ∷ codes "InstallIn" ∷ codes "IntoSet" ∷ codes "ElementsIntoSet" ∷ codes "IntoMap"
+    ∷ codes "StringKey" ∷ codes "IntKey"
+    ∷ codes "SingletonComponent" ∷ codes "ActivityRetainedComponent" ∷ codes "ServiceComponent"
+    ∷ codes "ViewModelComponent" ∷ codes "ActivityComponent" ∷ codes "FragmentComponent" ∷ codes "ViewComponent"
+    ∷ codes "ViewWithFragmentComponent"
+    ∷ codes "Singleton" ∷ codes "ActivityRetainedScoped" ∷ codes "ServiceScoped" ∷ codes "ViewModelScoped"
+    ∷ codes "ActivityScoped" ∷ codes "FragmentScoped" ∷ codes "ViewScoped"
+    ∷ codes "Application" ∷ codes "Service" ∷ codes "SavedStateHandle" ∷ codes "Activity" ∷ codes "Fragment" ∷ codes "View"
+    ∷ []
+
+-- the name that an item declares outside blocks
+abbrev pub outer_name : Item → Option Bytes
+outer_name (Class n ps) = Some n
+outer_name (Module n) = Some n
+outer_name (Component n ms) = Some n
+outer_name item = None
+
+-- the name that a member declares in its block
+abbrev pub member_name : Item → Option Bytes
+member_name (Provides n t b) = Some n
+member_name (Entry n t) = Some n
+member_name item = None
+
+abbrev pub module_name : Item → Option Bytes
+module_name (Module n) = Some n
+module_name item = None
+
+abbrev pub component_name : Item → Option Bytes
+component_name (Component n ms) = Some n
+component_name item = None
+
+abbrev pub instance_name : Item → Option Bytes
+instance_name (OpenLine n c) = Some n
+instance_name item = None
+
+-- one of the items has this name, of that kind of names
+abbrev pub declares : (Item → Option Bytes) → Bytes → List Item → Bool
+declares name_in n items = is_among n (filter_map name_in items)
+
+-- neither predefined, nor declared outside blocks before
+abbrev pub is_new : Bytes → List Item → Bool
+is_new n earlier = not (is_among n predefined) && not (declares outer_name n earlier)
+
+-- the same, and not declared before in the block either
+abbrev pub is_new_member : Bytes → List Item → Bool
+is_new_member n earlier = is_new n earlier && not (declares member_name n (in_open_block earlier))
+
+-- each text stands once
+abbrev pub are_distinct : List Bytes → Bool
+are_distinct [] = true
+are_distinct (n ∷ ns) = not (is_among n ns) && are_distinct ns
+
+-- ---- types
+
+abbrev pub is_text_shape : Shape → Bool
+is_text_shape shape.Text = true
+is_text_shape (shape.Named n) = false
+
+-- a parameter of a class is a text
+abbrev pub is_text_param : Param → Bool
+is_text_param p = is_text_shape p.shape.shape
+
+abbrev pub name_of_param : Param → Bytes
+name_of_param p = p.name
+
+-- `Text`, or a class that was declared before
+abbrev pub is_known_shape : Shape → List Item → Bool
+is_known_shape shape.Text earlier = true
+is_known_shape (shape.Named n) earlier = is_some (params_of n earlier)
+
+-- an argument has the type of its parameter
+abbrev pub argument_checks : Expr-F Expr → Shape → Bool
+argument_checks (Expr-F.Text t) shape.Text = true
+argument_checks (Expr-F.Text t) (shape.Named n) = false
+argument_checks (Expr-F.New c xs) type = false
+
+-- as many arguments as parameters, and each of its type
+abbrev pub arguments_check : List Expr → List Param → Bool
+arguments_check [] [] = true
+arguments_check [] (p ∷ ps) = false
+arguments_check (x ∷ xs) [] = false
+arguments_check (x ∷ xs) (p ∷ ps) = argument_checks (out-Expr x) p.shape.shape && arguments_check xs ps
+
+abbrev pub fits_params : List Expr → Option (List Param) → Bool
+fits_params xs None = false
+fits_params xs (Some ps) = arguments_check xs ps
+
+-- a constant has a type
+abbrev pub layer_checks : Expr-F Expr → Shape → List Item → Bool
+layer_checks (Expr-F.Text t) shape.Text earlier = true
+layer_checks (Expr-F.Text t) (shape.Named n) earlier = false
+layer_checks (Expr-F.New c xs) shape.Text earlier = false
+layer_checks (Expr-F.New c xs) (shape.Named n) earlier = bytes_eq c n && fits_params xs (params_of c earlier)
+
+abbrev pub checks : Expr → TypeUse → List Item → Bool
+checks e t earlier = layer_checks (out-Expr e) t.shape earlier
+
+-- ---- the condition of each item
+
+-- the modules of the component whose block is open
+abbrev pub open_modules : Option Item → List Bytes
+open_modules (Some (Component n ms)) = ms
+open_modules (Some item) = []
+open_modules None = []
+
+abbrev pub has_entry : Bytes → Option Bytes → List Item → Bool
+has_entry entry None earlier = false
+has_entry entry (Some class) earlier = is_some (entry_of class entry earlier)
+
+-- Each name that the item mentions was declared before as the kind that its place wants, the name that it declares
+-- is new, and its constant has its type. There is one module and one component at most, and an entry point only
+-- where exactly one `provides` line of the component's modules gives its type.
+abbrev pub is_admitted : Item → List Item → Bool
+is_admitted (Class n ps) earlier = is_new n earlier && list_all is_text_param ps && are_distinct (map name_of_param ps)
+is_admitted (Module n) earlier = is_new n earlier && length (filter_map module_name earlier) == 0
+is_admitted (Component n ms) earlier =
+    is_new n earlier && length (filter_map component_name earlier) == 0 && list_all (λ m. declares module_name m earlier) ms
+is_admitted (Provides n t b) earlier = is_new_member n earlier && is_known_shape t.shape earlier && checks b t earlier
+is_admitted (Entry n t) earlier =
+    is_new_member n earlier && is_known_shape t.shape earlier && length (bindings (open_modules (open_block earlier)) t earlier) == 1
+is_admitted End earlier = true
+is_admitted (OpenLine n c) earlier = not (declares instance_name n earlier) && declares component_name c earlier
+is_admitted (AskLine i e) earlier = has_entry e (class_of i earlier) earlier
+
+-- an item may stand behind these
+unfoldable pub may_follow : Item → List Item → Bool
+may_follow item earlier = may_stand (open_block earlier) item && is_admitted item earlier
