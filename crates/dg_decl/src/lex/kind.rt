@@ -19,6 +19,7 @@ fn is_reserved(z: &[u8]) -> bool
     z == b"new".as_slice() || z == b"if".as_slice() || z == b"then".as_slice() || z == b"else".as_slice() || z == b"await".as_slice()
 }
 
+#[tactic(auto, unfolding(crate::specs::Tokens::is_name))]
 fn is_name(z: &[u8]) -> bool
     ensures exact { result ≡ spec.is_name z.now }
 {
@@ -29,6 +30,7 @@ fn is_name(z: &[u8]) -> bool
     begins && z.iter().all(|b| is_word_byte(*b)) && z.len() <= NAME_LIMIT && !is_reserved(z)
 }
 
+#[tactic(auto, unfolding(crate::specs::Tokens::is_at_name))]
 fn is_at_name(z: &[u8]) -> bool
     ensures exact { result ≡ spec.is_at_name z.now }
 {
@@ -38,6 +40,7 @@ fn is_at_name(z: &[u8]) -> bool
     }
 }
 
+#[tactic(auto, unfolding(crate::specs::Tokens::is_counting))]
 fn is_counting(z: &[u8]) -> bool
     ensures exact { result ≡ spec.is_counting z.now }
 {
@@ -48,6 +51,7 @@ fn is_counting(z: &[u8]) -> bool
     }
 }
 
+#[tactic(auto, unfolding(crate::specs::Tokens::is_integer))]
 fn is_integer(z: &[u8]) -> bool
     ensures exact { result ≡ spec.is_integer z.now }
 {
@@ -84,6 +88,7 @@ fn is_rest_of_text(z: &[u8]) -> bool
     false
 }
 
+#[tactic(auto, unfolding(crate::specs::Tokens::is_text))]
 fn is_text(z: &[u8]) -> bool
     ensures exact { result ≡ spec.is_text z.now }
 {
@@ -93,6 +98,7 @@ fn is_text(z: &[u8]) -> bool
     }
 }
 
+#[tactic(auto, unfolding(crate::specs::Tokens::is_sign))]
 fn is_sign(z: &[u8]) -> bool
     ensures exact { result ≡ spec.is_sign z.now }
 {
@@ -103,6 +109,7 @@ fn is_sign(z: &[u8]) -> bool
 }
 
 /// The kind of a token of just these bytes, or None where they are no token.
+#[tactic(auto, unfolding(crate::specs::Tokens::kind_of))]
 pub fn kind_of(z: &[u8]) -> Option<TokenKind>
     ensures exact { result ≡ spec.kind_of z.now }
 {
