@@ -1,6 +1,8 @@
 //! What a token is, by all of its bytes.
 
-ghost use Rattle.std.specs.Prelude.{◌≡◌, false};
+ghost use Rattle.std.specs.Prelude.{◌≡◌, true, false, nat_le};
+ghost use Rattle.std.specs.Char.{is_ascii_digit};
+ghost use Rattle.std.specs.List.{list_all};
 ghost use Rattle.dg_decl.specs.Bytes as bytes;
 ghost use Rattle.dg_decl.specs.Tokens as spec;
 
@@ -19,6 +21,18 @@ fn is_reserved(z: &[u8]) -> bool
     z == b"new".as_slice() || z == b"if".as_slice() || z == b"then".as_slice() || z == b"else".as_slice() || z == b"await".as_slice()
 }
 
+fn are_word_bytes(z: &[u8]) -> bool
+    ensures exact { result ≡ list_all bytes.is_word_byte z.now }
+{
+    z.iter().all(|b| is_word_byte(*b))
+}
+
+fn are_digits(z: &[u8]) -> bool
+    ensures exact { result ≡ list_all is_ascii_digit z.now }
+{
+    z.iter().all(|b| b.is_ascii_digit())
+}
+
 #[tactic(auto, unfolding(crate::specs::Tokens::is_name))]
 fn is_name(z: &[u8]) -> bool
     ensures exact { result ≡ spec.is_name z.now }
@@ -27,7 +41,7 @@ fn is_name(z: &[u8]) -> bool
         [first, ..] => first.is_ascii_alphabetic(),
         [] => false,
     };
-    begins && z.iter().all(|b| is_word_byte(*b)) && z.len() <= NAME_LIMIT && !is_reserved(z)
+    begins && are_word_bytes(z) && z.len() <= NAME_LIMIT && !is_reserved(z)
 }
 
 #[tactic(auto, unfolding(crate::specs::Tokens::is_at_name))]
@@ -43,12 +57,20 @@ fn is_at_name(z: &[u8]) -> bool
 #[tactic(auto, unfolding(crate::specs::Tokens::is_counting))]
 fn is_counting(z: &[u8]) -> bool
     ensures exact { result ≡ spec.is_counting z.now }
+    ensures digits { result ≡ true → list_all is_ascii_digit z.now ≡ true }
 {
     match z {
         [b'0', ..] => false,
         [] => false,
-        _ => z.iter().all(|b| b.is_ascii_digit()),
+        _ => are_digits(z),
     }
+}
+
+fn is_at_most(digits: &[u8], limit: u64) -> bool
+    requires { list_all is_ascii_digit digits.now ≡ true }
+    ensures exact { result ≡ nat_le (spec.value_of_digits digits.now) limit }
+{
+    value_of_digits(digits).is_some_and(|value| value <= limit)
 }
 
 #[tactic(auto, unfolding(crate::specs::Tokens::is_integer))]
@@ -56,10 +78,9 @@ fn is_integer(z: &[u8]) -> bool
     ensures exact { result ≡ spec.is_integer z.now }
 {
     if let [b'-', digits @ ..] = z {
-        return is_counting(digits)
-            && value_of_digits(digits).is_some_and(|value| value <= 1 << 63);
+        return is_counting(digits) && is_at_most(digits, 1 << 63);
     }
-    z == b"0".as_slice() || (is_counting(z) && value_of_digits(z).is_some_and(|value| value < 1 << 63))
+    z == b"0".as_slice() || (is_counting(z) && is_at_most(z, (1 << 63) - 1))
 }
 
 /// Whether this stands behind the opening quote of a text, with the closing quote at its end.
