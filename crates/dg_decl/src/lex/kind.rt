@@ -18,7 +18,11 @@ const SIGNS: &[u8] = b"(){}<>,:=.!?[]+";
 fn is_reserved(z: &[u8]) -> bool
     ensures exact { result ≡ bytes.is_among z.now spec.reserved }
 {
-    z == b"new".as_slice() || z == b"if".as_slice() || z == b"then".as_slice() || z == b"else".as_slice() || z == b"await".as_slice()
+    z == b"new".as_slice()
+        || z == b"if".as_slice()
+        || z == b"then".as_slice()
+        || z == b"else".as_slice()
+        || z == b"await".as_slice()
 }
 
 fn are_word_bytes(z: &[u8]) -> bool
