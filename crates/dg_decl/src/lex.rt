@@ -8,3 +8,6 @@ mod token;
 
 pub use scan::{spelling, tokens};
 pub use token::{LexFault, Token, TokenKind};
+
+#[cfg(test)]
+mod tests;
