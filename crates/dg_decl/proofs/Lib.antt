@@ -1,1 +1,3 @@
 pub mod OneReading
+mod NumberLemmas
+pub mod TokenLemmas

@@ -91,10 +91,10 @@ tokens_from (suc left) at (b ∷ z) = tokens_from left (at + 1) z
 tokens_from zero at (b ∷ z) =
     if b == 32 then tokens_from 0 (at + 1) z
     else token_then (kind_of (take (extent (b ∷ z)) (b ∷ z))) at (extent (b ∷ z)) (tokens_from (extent (b ∷ z) - 1) (at + 1) z)
-    where
-      token_then : Option TokenKind → ℕ → ℕ → Result (List Token) ℕ → Result (List Token) ℕ
-      token_then None at len rest = Err at
-      token_then (Some kind) at len rest = before (token_from kind at len) rest
+  where
+    token_then : Option TokenKind → ℕ → ℕ → Result (List Token) ℕ → Result (List Token) ℕ
+    token_then None at len rest = Err at
+    token_then (Some kind) at len rest = before (token_from kind at len) rest
 
 -- the tokens of a line, or the first place at which none begins
 unfoldable pub tokens_of : Bytes → Result (List Token) ℕ

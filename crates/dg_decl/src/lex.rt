@@ -3,8 +3,11 @@
 mod extent;
 mod kind;
 mod number;
-mod token;
 mod scan;
+mod token;
 
-pub use token::{LexFault, Token, TokenKind};
 pub use scan::{spelling, tokens};
+pub use token::{LexFault, Token, TokenKind};
+
+#[cfg(test)]
+mod tests;

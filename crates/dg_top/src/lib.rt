@@ -1,2 +1,4 @@
-//! The outside of the programs: where bytes come from, where they go, and who is told of each step.
+//! Documents from bytes to replies: what the programs do, over any source and sink.
 #![tactic(auto)]
+
+mod reader;

@@ -43,6 +43,7 @@ fn quoted_len(z: &[u8]) -> usize
 }
 
 /// How many bytes the token at the front takes, where one begins there.
+#[tactic(auto, unfolding(crate::specs::Tokens::extent))]
 pub fn extent(z: &[u8]) -> usize
     ensures exact { result ≡ spec.extent z.now }
     ensures bound { result ≤ length z.now }

@@ -1,6 +1,8 @@
 //! What a token is, by all of its bytes.
 
-ghost use Rattle.std.specs.Prelude.{◌≡◌, false};
+ghost use Rattle.std.specs.Prelude.{◌≡◌, true, false, nat_le};
+ghost use Rattle.std.specs.Char.{is_ascii_digit};
+ghost use Rattle.std.specs.List.{list_all};
 ghost use Rattle.dg_decl.specs.Bytes as bytes;
 ghost use Rattle.dg_decl.specs.Tokens as spec;
 
@@ -16,9 +18,26 @@ const SIGNS: &[u8] = b"(){}<>,:=.!?[]+";
 fn is_reserved(z: &[u8]) -> bool
     ensures exact { result ≡ bytes.is_among z.now spec.reserved }
 {
-    z == b"new".as_slice() || z == b"if".as_slice() || z == b"then".as_slice() || z == b"else".as_slice() || z == b"await".as_slice()
+    z == b"new".as_slice()
+        || z == b"if".as_slice()
+        || z == b"then".as_slice()
+        || z == b"else".as_slice()
+        || z == b"await".as_slice()
 }
 
+fn are_word_bytes(z: &[u8]) -> bool
+    ensures exact { result ≡ list_all bytes.is_word_byte z.now }
+{
+    z.iter().all(|b| is_word_byte(*b))
+}
+
+fn are_digits(z: &[u8]) -> bool
+    ensures exact { result ≡ list_all is_ascii_digit z.now }
+{
+    z.iter().all(|b| b.is_ascii_digit())
+}
+
+#[tactic(auto, unfolding(crate::specs::Tokens::is_name))]
 fn is_name(z: &[u8]) -> bool
     ensures exact { result ≡ spec.is_name z.now }
 {
@@ -26,9 +45,10 @@ fn is_name(z: &[u8]) -> bool
         [first, ..] => first.is_ascii_alphabetic(),
         [] => false,
     };
-    begins && z.iter().all(|b| is_word_byte(*b)) && z.len() <= NAME_LIMIT && !is_reserved(z)
+    begins && are_word_bytes(z) && z.len() <= NAME_LIMIT && !is_reserved(z)
 }
 
+#[tactic(auto, unfolding(crate::specs::Tokens::is_at_name))]
 fn is_at_name(z: &[u8]) -> bool
     ensures exact { result ≡ spec.is_at_name z.now }
 {
@@ -38,24 +58,33 @@ fn is_at_name(z: &[u8]) -> bool
     }
 }
 
+#[tactic(auto, unfolding(crate::specs::Tokens::is_counting))]
 fn is_counting(z: &[u8]) -> bool
     ensures exact { result ≡ spec.is_counting z.now }
+    ensures digits { result ≡ true → list_all is_ascii_digit z.now ≡ true }
 {
     match z {
         [b'0', ..] => false,
         [] => false,
-        _ => z.iter().all(|b| b.is_ascii_digit()),
+        _ => are_digits(z),
     }
 }
 
+fn is_at_most(digits: &[u8], limit: u64) -> bool
+    requires { list_all is_ascii_digit digits.now ≡ true }
+    ensures exact { result ≡ nat_le (spec.value_of_digits digits.now) limit }
+{
+    value_of_digits(digits).is_some_and(|value| value <= limit)
+}
+
+#[tactic(auto, unfolding(crate::specs::Tokens::is_integer))]
 fn is_integer(z: &[u8]) -> bool
     ensures exact { result ≡ spec.is_integer z.now }
 {
     if let [b'-', digits @ ..] = z {
-        return is_counting(digits)
-            && value_of_digits(digits).is_some_and(|value| value <= 1 << 63);
+        return is_counting(digits) && is_at_most(digits, 1 << 63);
     }
-    z == b"0".as_slice() || (is_counting(z) && value_of_digits(z).is_some_and(|value| value < 1 << 63))
+    z == b"0".as_slice() || (is_counting(z) && is_at_most(z, (1 << 63) - 1))
 }
 
 /// Whether this stands behind the opening quote of a text, with the closing quote at its end.
@@ -84,6 +113,7 @@ fn is_rest_of_text(z: &[u8]) -> bool
     false
 }
 
+#[tactic(auto, unfolding(crate::specs::Tokens::is_text))]
 fn is_text(z: &[u8]) -> bool
     ensures exact { result ≡ spec.is_text z.now }
 {
@@ -93,6 +123,7 @@ fn is_text(z: &[u8]) -> bool
     }
 }
 
+#[tactic(auto, unfolding(crate::specs::Tokens::is_sign))]
 fn is_sign(z: &[u8]) -> bool
     ensures exact { result ≡ spec.is_sign z.now }
 {
@@ -103,6 +134,7 @@ fn is_sign(z: &[u8]) -> bool
 }
 
 /// The kind of a token of just these bytes, or None where they are no token.
+#[tactic(auto, unfolding(crate::specs::Tokens::kind_of))]
 pub fn kind_of(z: &[u8]) -> Option<TokenKind>
     ensures exact { result ≡ spec.kind_of z.now }
 {

@@ -1,0 +1,272 @@
+//! The forms of lines.
+
+ghost use Rattle.std.specs.Prelude.{◌≡◌, IfOk};
+ghost use Rattle.dg_decl.specs.Forms as forms;
+ghost use Rattle.dg_top.specs.Gives.{Gives, GivesBy};
+
+use crate::reader::fault::FormFault;
+use crate::reader::lexemes::Lexemes;
+use dg_decl::lex::TokenKind;
+use dg_decl::{Expr, Item, Param};
+use dg_types::{Name, NoMemory, Shape, Text, TypeUse};
+use sqlite_items::Items;
+use std::alloc::Global;
+
+/// The most members of a list in parentheses.
+const LIST_LIMIT: usize = 32;
+
+fn keyword(tokens: &mut Lexemes<'_>, word: &[u8]) -> Result<(), FormFault>
+    ensures exact { GivesBy (λ _. tt) (forms.keyword word.now tokens.old) result tokens.new }
+{
+    tokens.take(TokenKind::Name, word)
+}
+
+fn sign(tokens: &mut Lexemes<'_>, sign: &[u8]) -> Result<(), FormFault>
+    ensures exact { GivesBy (λ _. tt) (forms.sign sign.now tokens.old) result tokens.new }
+{
+    tokens.take(TokenKind::Sign, sign)
+}
+
+fn name(alloc: Global, tokens: &mut Lexemes<'_>) -> Result<Name, FormFault>
+    ensures exact { Gives (forms.name tokens.old) result tokens.new }
+{
+    Ok(Name::from_slice(alloc, tokens.spelled(TokenKind::Name)?)?)
+}
+
+/// The value of a text token: what stands between its quotes, without the `\` before each `"` and `\`.
+fn value_of_text(alloc: Global, spelled: &[u8]) -> Result<Text, NoMemory>
+    ensures exact { IfOk result (λ t. t ≡ forms.value_of_text spelled.now) }
+{
+    let mut value = Vec::new(alloc);
+    let end = spelled.len().saturating_sub(1);
+    let mut escaped = false;
+    for at in 1..end {
+        let b = spelled[at];
+        if b == b'\\' && !escaped {
+            escaped = true;
+        } else {
+            value.push(b)?;
+            escaped = false;
+        }
+    }
+    Ok(Text::from_vec(value))
+}
+
+fn text(alloc: Global, tokens: &mut Lexemes<'_>) -> Result<Text, FormFault>
+    ensures exact { Gives (forms.text tokens.old) result tokens.new }
+{
+    Ok(value_of_text(alloc, tokens.spelled(TokenKind::Text)?)?)
+}
+
+fn type_use(alloc: Global, tokens: &mut Lexemes<'_>) -> Result<TypeUse, FormFault>
+    ensures exact { Gives (forms.type_use tokens.old) result tokens.new }
+{
+    let name = name(alloc, tokens)?;
+    let shape = if name.is(b"Text") {
+        Shape::Text
+    } else {
+        Shape::Named(name)
+    };
+    Ok(TypeUse { shape })
+}
+
+fn param(alloc: Global, tokens: &mut Lexemes<'_>) -> Result<Param, FormFault>
+    ensures exact { Gives (forms.param tokens.old) result tokens.new }
+{
+    let name = name(alloc, tokens)?;
+    sign(tokens, b":")?;
+    let shape = type_use(alloc, tokens)?;
+    Ok(Param { name, shape })
+}
+
+/// One parameter or more, with commas between, at most `LIST_LIMIT`.
+fn param_list(alloc: Global, tokens: &mut Lexemes<'_>) -> Result<Items<Param>, FormFault>
+    ensures exact { Gives (forms.list_of forms.param forms.list_limit tokens.old) result tokens.new }
+{
+    let mut found = Items::new(alloc);
+    for _turn in 0..LIST_LIMIT {
+        found.push(param(alloc, tokens)?)?;
+        if !tokens.eat(TokenKind::Sign, b",") {
+            return Ok(found);
+        }
+    }
+    Err(FormFault::NoForm)
+}
+
+fn params(alloc: Global, tokens: &mut Lexemes<'_>) -> Result<Items<Param>, FormFault>
+    ensures exact { Gives (forms.params tokens.old) result tokens.new }
+{
+    sign(tokens, b"(")?;
+    if tokens.eat(TokenKind::Sign, b")") {
+        return Ok(Items::new(alloc));
+    }
+    let params = param_list(alloc, tokens)?;
+    sign(tokens, b")")?;
+    Ok(params)
+}
+
+fn text_constant(alloc: Global, tokens: &mut Lexemes<'_>) -> Result<Expr, FormFault>
+    ensures exact { Gives (forms.text_constant tokens.old) result tokens.new }
+{
+    Ok(Expr::Text(text(alloc, tokens)?))
+}
+
+/// One text or more, with commas between, at most `LIST_LIMIT`.
+fn argument_list(alloc: Global, tokens: &mut Lexemes<'_>) -> Result<Items<Expr>, FormFault>
+    ensures exact { Gives (forms.list_of forms.text_constant forms.list_limit tokens.old) result tokens.new }
+{
+    let mut found = Items::new(alloc);
+    for _turn in 0..LIST_LIMIT {
+        found.push(text_constant(alloc, tokens)?)?;
+        if !tokens.eat(TokenKind::Sign, b",") {
+            return Ok(found);
+        }
+    }
+    Err(FormFault::NoForm)
+}
+
+fn arguments(alloc: Global, tokens: &mut Lexemes<'_>) -> Result<Items<Expr>, FormFault>
+    ensures exact { Gives (forms.arguments tokens.old) result tokens.new }
+{
+    sign(tokens, b"(")?;
+    if tokens.eat(TokenKind::Sign, b")") {
+        return Ok(Items::new(alloc));
+    }
+    let args = argument_list(alloc, tokens)?;
+    sign(tokens, b")")?;
+    Ok(args)
+}
+
+fn constant(alloc: Global, tokens: &mut Lexemes<'_>) -> Result<Expr, FormFault>
+    ensures exact { Gives (forms.constant tokens.old) result tokens.new }
+{
+    if !tokens.eat(TokenKind::Word, b"new") {
+        return text_constant(alloc, tokens);
+    }
+    let class = name(alloc, tokens)?;
+    let args = arguments(alloc, tokens)?;
+    Ok(Expr::New { class, args })
+}
+
+fn class_line(alloc: Global, tokens: &mut Lexemes<'_>) -> Result<Item, FormFault>
+    ensures exact { Gives (forms.class_line tokens.old) result tokens.new }
+{
+    keyword(tokens, b"class")?;
+    let name = name(alloc, tokens)?;
+    let params = params(alloc, tokens)?;
+    tokens.end()?;
+    Ok(Item::Class { name, params })
+}
+
+fn module_line(alloc: Global, tokens: &mut Lexemes<'_>) -> Result<Item, FormFault>
+    ensures exact { Gives (forms.module_line tokens.old) result tokens.new }
+{
+    keyword(tokens, b"module")?;
+    let name = name(alloc, tokens)?;
+    sign(tokens, b"{")?;
+    tokens.end()?;
+    Ok(Item::Module { name })
+}
+
+fn modules(alloc: Global, tokens: &mut Lexemes<'_>) -> Result<Items<Name>, FormFault>
+    ensures exact { Gives (forms.modules tokens.old) result tokens.new }
+{
+    let mut modules = Items::new(alloc);
+    if tokens.eat(TokenKind::Name, b"modules") {
+        modules.push(name(alloc, tokens)?)?;
+    }
+    Ok(modules)
+}
+
+fn component_line(alloc: Global, tokens: &mut Lexemes<'_>) -> Result<Item, FormFault>
+    ensures exact { Gives (forms.component_line tokens.old) result tokens.new }
+{
+    keyword(tokens, b"component")?;
+    let name = name(alloc, tokens)?;
+    let modules = modules(alloc, tokens)?;
+    sign(tokens, b"{")?;
+    tokens.end()?;
+    Ok(Item::Component { name, modules })
+}
+
+fn provides_line(alloc: Global, tokens: &mut Lexemes<'_>) -> Result<Item, FormFault>
+    ensures exact { Gives (forms.provides_line tokens.old) result tokens.new }
+{
+    keyword(tokens, b"provides")?;
+    let name = name(alloc, tokens)?;
+    sign(tokens, b"(")?;
+    sign(tokens, b")")?;
+    sign(tokens, b":")?;
+    let result = type_use(alloc, tokens)?;
+    sign(tokens, b"=")?;
+    let body = constant(alloc, tokens)?;
+    tokens.end()?;
+    Ok(Item::Provides { name, result, body })
+}
+
+fn entry_line(alloc: Global, tokens: &mut Lexemes<'_>) -> Result<Item, FormFault>
+    ensures exact { Gives (forms.entry_line tokens.old) result tokens.new }
+{
+    keyword(tokens, b"entry")?;
+    let name = name(alloc, tokens)?;
+    sign(tokens, b":")?;
+    let result = type_use(alloc, tokens)?;
+    tokens.end()?;
+    Ok(Item::Entry { name, result })
+}
+
+fn end_line(tokens: &mut Lexemes<'_>) -> Result<Item, FormFault>
+    ensures exact { Gives (forms.end_line tokens.old) result tokens.new }
+{
+    sign(tokens, b"}")?;
+    tokens.end()?;
+    Ok(Item::End)
+}
+
+fn open_line(alloc: Global, tokens: &mut Lexemes<'_>) -> Result<Item, FormFault>
+    ensures exact { Gives (forms.open_line tokens.old) result tokens.new }
+{
+    keyword(tokens, b"open")?;
+    let name_of_instance = name(alloc, tokens)?;
+    sign(tokens, b":")?;
+    let class = name(alloc, tokens)?;
+    tokens.end()?;
+    Ok(Item::OpenLine {
+        name: name_of_instance,
+        class,
+    })
+}
+
+fn ask_line(alloc: Global, tokens: &mut Lexemes<'_>) -> Result<Item, FormFault>
+    ensures exact { Gives (forms.ask_line tokens.old) result tokens.new }
+{
+    keyword(tokens, b"ask")?;
+    let inst = name(alloc, tokens)?;
+    sign(tokens, b".")?;
+    let entry = name(alloc, tokens)?;
+    tokens.end()?;
+    Ok(Item::AskLine { inst, entry })
+}
+
+/// The item that the tokens of a line spell, all of them.
+pub fn item_line(alloc: Global, tokens: &mut Lexemes<'_>) -> Result<Item, FormFault>
+    ensures exact { Gives (forms.item_line tokens.old) result tokens.new }
+{
+    if tokens.comes(TokenKind::Name, b"class") {
+        class_line(alloc, tokens)
+    } else if tokens.comes(TokenKind::Name, b"module") {
+        module_line(alloc, tokens)
+    } else if tokens.comes(TokenKind::Name, b"component") {
+        component_line(alloc, tokens)
+    } else if tokens.comes(TokenKind::Name, b"provides") {
+        provides_line(alloc, tokens)
+    } else if tokens.comes(TokenKind::Name, b"entry") {
+        entry_line(alloc, tokens)
+    } else if tokens.comes(TokenKind::Name, b"open") {
+        open_line(alloc, tokens)
+    } else if tokens.comes(TokenKind::Name, b"ask") {
+        ask_line(alloc, tokens)
+    } else {
+        end_line(tokens)
+    }
+}

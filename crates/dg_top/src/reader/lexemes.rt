@@ -1,0 +1,97 @@
+//! The tokens of a line, one after another.
+
+ghost use Rattle.std.specs.Prelude.{◌≡◌, Some, drop};
+ghost use Rattle.dg_decl.specs.Forms as forms;
+ghost use Rattle.dg_top.specs.Gives.{Gives, GivesBy};
+
+use crate::reader::fault::FormFault;
+use dg_decl::lex::{Token, TokenKind, spelling};
+use std::marker::Model;
+
+/// The tokens of a line that are still to be read. It borrows the line and its tokens.
+#[derive(Drop)]
+pub struct Lexemes<'a> {
+    line: &'a [u8],
+    tokens: &'a [Token],
+}
+
+impl<'a> Model for Lexemes<'a> {
+    ghost use Rattle.std.specs.Prelude.{List};
+    ghost use Rattle.dg_decl.specs.Forms.{Lexeme, lexemes};
+
+    ghost Value = { List Lexeme };
+
+    ghost view = { λ ls. lexemes ls.line.now ls.tokens.now };
+}
+
+impl<'a> Lexemes<'a> {
+    pub fn new(line: &'a [u8], tokens: &'a [Token]) -> Lexemes<'a>
+        ensures exact { result ≡ forms.lexemes line.now tokens.now }
+    {
+        Lexemes { line, tokens }
+    }
+
+    /// Whether a token of this kind and spelling comes next.
+    pub fn comes(&self, kind: TokenKind, spelled: &[u8]) -> bool
+        ensures exact { result ≡ forms.comes kind spelled.now self.now }
+    {
+        match self.tokens {
+            [] => false,
+            [token, ..] => token.kind == kind && spelling(self.line, token) == spelled,
+        }
+    }
+
+    /// Takes the next token, which has this kind and spelling.
+    pub fn take(&mut self, kind: TokenKind, spelled: &[u8]) -> Result<(), FormFault>
+        ensures exact { GivesBy (λ _. tt) (forms.taken kind spelled.now self.old) result self.new }
+    {
+        if !self.comes(kind, spelled) {
+            return Err(FormFault::NoForm);
+        }
+        self.skip();
+        Ok(())
+    }
+
+    /// Takes the next token if it has this kind and spelling, and says whether it has.
+    pub fn eat(&mut self, kind: TokenKind, spelled: &[u8]) -> bool
+        ensures exact { forms.eaten kind spelled.now self.old ≡ Some (result, self.new) }
+    {
+        let found = self.comes(kind, spelled);
+        if found {
+            self.skip();
+        }
+        found
+    }
+
+    /// Takes the next token, which has this kind, and gives its bytes.
+    pub fn spelled(&mut self, kind: TokenKind) -> Result<&'a [u8], FormFault>
+        ensures exact { GivesBy (λ z. z.now) (forms.spelled kind self.old) result self.new }
+    {
+        match self.tokens {
+            [token, rest @ ..] if token.kind == kind => {
+                self.tokens = rest;
+                Ok(spelling(self.line, token))
+            }
+            _ => Err(FormFault::NoForm),
+        }
+    }
+
+    /// Ok where no token is left.
+    pub fn end(&self) -> Result<(), FormFault>
+        ensures exact { GivesBy (λ _. tt) (forms.at_end self.now) result self.now }
+    {
+        if self.tokens.is_empty() {
+            Ok(())
+        } else {
+            Err(FormFault::NoForm)
+        }
+    }
+
+    fn skip(&mut self)
+        ensures exact { self.new ≡ drop 1 self.old }
+    {
+        if let [_, rest @ ..] = self.tokens {
+            self.tokens = rest;
+        }
+    }
+}
