@@ -52,12 +52,14 @@ fn value_of_text(alloc: Global, spelled: &[u8]) -> Result<Text, NoMemory>
     Ok(Text::from_vec(value))
 }
 
+#[tactic(auto, unfolding(dg_decl::specs::Forms::text))]
 fn text(alloc: Global, tokens: &mut Lexemes<'_>) -> Result<Text, FormFault>
     ensures exact { Gives (forms.text tokens.old) result tokens.new }
 {
     Ok(value_of_text(alloc, tokens.spelled(TokenKind::Text)?)?)
 }
 
+#[tactic(auto, unfolding(dg_decl::specs::Forms::type_use))]
 fn type_use(alloc: Global, tokens: &mut Lexemes<'_>) -> Result<TypeUse, FormFault>
     ensures exact { Gives (forms.type_use tokens.old) result tokens.new }
 {
@@ -70,6 +72,7 @@ fn type_use(alloc: Global, tokens: &mut Lexemes<'_>) -> Result<TypeUse, FormFaul
     Ok(TypeUse { shape })
 }
 
+#[tactic(auto, unfolding(dg_decl::specs::Forms::param))]
 fn param(alloc: Global, tokens: &mut Lexemes<'_>) -> Result<Param, FormFault>
     ensures exact { Gives (forms.param tokens.old) result tokens.new }
 {
@@ -93,6 +96,7 @@ fn param_list(alloc: Global, tokens: &mut Lexemes<'_>) -> Result<Items<Param>, F
     Err(FormFault::NoForm)
 }
 
+#[tactic(auto, unfolding(dg_decl::specs::Forms::params))]
 fn params(alloc: Global, tokens: &mut Lexemes<'_>) -> Result<Items<Param>, FormFault>
     ensures exact { Gives (forms.params tokens.old) result tokens.new }
 {
@@ -105,6 +109,7 @@ fn params(alloc: Global, tokens: &mut Lexemes<'_>) -> Result<Items<Param>, FormF
     Ok(params)
 }
 
+#[tactic(auto, unfolding(dg_decl::specs::Forms::text_constant))]
 fn text_constant(alloc: Global, tokens: &mut Lexemes<'_>) -> Result<Expr, FormFault>
     ensures exact { Gives (forms.text_constant tokens.old) result tokens.new }
 {
@@ -125,6 +130,7 @@ fn argument_list(alloc: Global, tokens: &mut Lexemes<'_>) -> Result<Items<Expr>,
     Err(FormFault::NoForm)
 }
 
+#[tactic(auto, unfolding(dg_decl::specs::Forms::arguments))]
 fn arguments(alloc: Global, tokens: &mut Lexemes<'_>) -> Result<Items<Expr>, FormFault>
     ensures exact { Gives (forms.arguments tokens.old) result tokens.new }
 {
@@ -137,6 +143,7 @@ fn arguments(alloc: Global, tokens: &mut Lexemes<'_>) -> Result<Items<Expr>, For
     Ok(args)
 }
 
+#[tactic(auto, unfolding(dg_decl::specs::Forms::constant))]
 fn constant(alloc: Global, tokens: &mut Lexemes<'_>) -> Result<Expr, FormFault>
     ensures exact { Gives (forms.constant tokens.old) result tokens.new }
 {
@@ -148,6 +155,7 @@ fn constant(alloc: Global, tokens: &mut Lexemes<'_>) -> Result<Expr, FormFault>
     Ok(Expr::New { class, args })
 }
 
+#[tactic(auto, unfolding(dg_decl::specs::Forms::class_line))]
 fn class_line(alloc: Global, tokens: &mut Lexemes<'_>) -> Result<Item, FormFault>
     ensures exact { Gives (forms.class_line tokens.old) result tokens.new }
 {
@@ -158,6 +166,7 @@ fn class_line(alloc: Global, tokens: &mut Lexemes<'_>) -> Result<Item, FormFault
     Ok(Item::Class { name, params })
 }
 
+#[tactic(auto, unfolding(dg_decl::specs::Forms::module_line))]
 fn module_line(alloc: Global, tokens: &mut Lexemes<'_>) -> Result<Item, FormFault>
     ensures exact { Gives (forms.module_line tokens.old) result tokens.new }
 {
@@ -168,6 +177,7 @@ fn module_line(alloc: Global, tokens: &mut Lexemes<'_>) -> Result<Item, FormFaul
     Ok(Item::Module { name })
 }
 
+#[tactic(auto, unfolding(dg_decl::specs::Forms::modules))]
 fn modules(alloc: Global, tokens: &mut Lexemes<'_>) -> Result<Items<Name>, FormFault>
     ensures exact { Gives (forms.modules tokens.old) result tokens.new }
 {
@@ -178,6 +188,7 @@ fn modules(alloc: Global, tokens: &mut Lexemes<'_>) -> Result<Items<Name>, FormF
     Ok(modules)
 }
 
+#[tactic(auto, unfolding(dg_decl::specs::Forms::component_line))]
 fn component_line(alloc: Global, tokens: &mut Lexemes<'_>) -> Result<Item, FormFault>
     ensures exact { Gives (forms.component_line tokens.old) result tokens.new }
 {
@@ -189,6 +200,7 @@ fn component_line(alloc: Global, tokens: &mut Lexemes<'_>) -> Result<Item, FormF
     Ok(Item::Component { name, modules })
 }
 
+#[tactic(auto, unfolding(dg_decl::specs::Forms::provides_line))]
 fn provides_line(alloc: Global, tokens: &mut Lexemes<'_>) -> Result<Item, FormFault>
     ensures exact { Gives (forms.provides_line tokens.old) result tokens.new }
 {
@@ -204,6 +216,7 @@ fn provides_line(alloc: Global, tokens: &mut Lexemes<'_>) -> Result<Item, FormFa
     Ok(Item::Provides { name, result, body })
 }
 
+#[tactic(auto, unfolding(dg_decl::specs::Forms::entry_line))]
 fn entry_line(alloc: Global, tokens: &mut Lexemes<'_>) -> Result<Item, FormFault>
     ensures exact { Gives (forms.entry_line tokens.old) result tokens.new }
 {
@@ -215,6 +228,7 @@ fn entry_line(alloc: Global, tokens: &mut Lexemes<'_>) -> Result<Item, FormFault
     Ok(Item::Entry { name, result })
 }
 
+#[tactic(auto, unfolding(dg_decl::specs::Forms::end_line))]
 fn end_line(tokens: &mut Lexemes<'_>) -> Result<Item, FormFault>
     ensures exact { Gives (forms.end_line tokens.old) result tokens.new }
 {
@@ -223,6 +237,7 @@ fn end_line(tokens: &mut Lexemes<'_>) -> Result<Item, FormFault>
     Ok(Item::End)
 }
 
+#[tactic(auto, unfolding(dg_decl::specs::Forms::open_line))]
 fn open_line(alloc: Global, tokens: &mut Lexemes<'_>) -> Result<Item, FormFault>
     ensures exact { Gives (forms.open_line tokens.old) result tokens.new }
 {
@@ -237,6 +252,7 @@ fn open_line(alloc: Global, tokens: &mut Lexemes<'_>) -> Result<Item, FormFault>
     })
 }
 
+#[tactic(auto, unfolding(dg_decl::specs::Forms::ask_line))]
 fn ask_line(alloc: Global, tokens: &mut Lexemes<'_>) -> Result<Item, FormFault>
     ensures exact { Gives (forms.ask_line tokens.old) result tokens.new }
 {
@@ -249,6 +265,7 @@ fn ask_line(alloc: Global, tokens: &mut Lexemes<'_>) -> Result<Item, FormFault>
 }
 
 /// The item that the tokens of a line spell, all of them.
+#[tactic(auto, unfolding(dg_decl::specs::Forms::item_line))]
 pub fn item_line(alloc: Global, tokens: &mut Lexemes<'_>) -> Result<Item, FormFault>
     ensures exact { Gives (forms.item_line tokens.old) result tokens.new }
 {

@@ -32,6 +32,7 @@ impl<'a> Lexemes<'a> {
     }
 
     /// Whether a token of this kind and spelling comes next.
+    #[tactic(auto, unfolding(dg_decl::specs::Forms::comes))]
     pub fn comes(&self, kind: TokenKind, spelled: &[u8]) -> bool
         ensures exact { result ≡ forms.comes kind spelled.now self.now }
     {
@@ -42,6 +43,7 @@ impl<'a> Lexemes<'a> {
     }
 
     /// Takes the next token, which has this kind and spelling.
+    #[tactic(auto, unfolding(dg_decl::specs::Forms::taken))]
     pub fn take(&mut self, kind: TokenKind, spelled: &[u8]) -> Result<(), FormFault>
         ensures exact { GivesBy (λ _. tt) (forms.taken kind spelled.now self.old) result self.new }
     {
@@ -53,6 +55,7 @@ impl<'a> Lexemes<'a> {
     }
 
     /// Takes the next token if it has this kind and spelling, and says whether it has.
+    #[tactic(auto, unfolding(dg_decl::specs::Forms::eaten))]
     pub fn eat(&mut self, kind: TokenKind, spelled: &[u8]) -> bool
         ensures exact { forms.eaten kind spelled.now self.old ≡ Some (result, self.new) }
     {
@@ -64,6 +67,7 @@ impl<'a> Lexemes<'a> {
     }
 
     /// Takes the next token, which has this kind, and gives its bytes.
+    #[tactic(auto, unfolding(dg_decl::specs::Forms::spelled))]
     pub fn spelled(&mut self, kind: TokenKind) -> Result<&'a [u8], FormFault>
         ensures exact { GivesBy (λ z. z.now) (forms.spelled kind self.old) result self.new }
     {
@@ -77,6 +81,7 @@ impl<'a> Lexemes<'a> {
     }
 
     /// Ok where no token is left.
+    #[tactic(auto, unfolding(dg_decl::specs::Forms::at_end))]
     pub fn end(&self) -> Result<(), FormFault>
         ensures exact { GivesBy (λ _. tt) (forms.at_end self.now) result self.now }
     {
