@@ -1,6 +1,6 @@
 //! The forms of lines.
 
-ghost use Rattle.std.specs.Prelude.{◌≡◌, IfOk};
+ghost use Rattle.std.specs.Prelude.{◌≡◌, false, IfOk};
 ghost use Rattle.dg_decl.specs.Forms as forms;
 ghost use Rattle.dg_top.specs.Gives.{Gives, GivesBy};
 
@@ -33,23 +33,33 @@ fn name(alloc: Global, tokens: &mut Lexemes<'_>) -> Result<Name, FormFault>
     Ok(Name::from_slice(alloc, tokens.spelled(TokenKind::Name)?)?)
 }
 
-/// The value of a text token: what stands between its quotes, without the `\` before each `"` and `\`.
+/// What stands between the quotes of a text, without the `\` before each `"` and `\`.
+fn unescaped(alloc: Global, inner: &[u8]) -> Result<Vec<u8>, NoMemory>
+    ensures exact { IfOk result (λ v. v.items ≡ forms.unescaped false inner.now) }
+{
+    let mut value = Vec::new(alloc);
+    let mut escaped = false;
+    for b in inner {
+        let is_escape = !escaped && *b == b'\\';
+        if !is_escape {
+            value.push(*b)?;
+        }
+        escaped = is_escape;
+    }
+    Ok(value)
+}
+
+/// The value of a text token.
+#[tactic(auto, unfolding(dg_decl::specs::Forms::value_of_text))]
 fn value_of_text(alloc: Global, spelled: &[u8]) -> Result<Text, NoMemory>
     ensures exact { IfOk result (λ t. t ≡ forms.value_of_text spelled.now) }
 {
-    let mut value = Vec::new(alloc);
-    let end = spelled.len().saturating_sub(1);
-    let mut escaped = false;
-    for at in 1..end {
-        let b = spelled[at];
-        if b == b'\\' && !escaped {
-            escaped = true;
-        } else {
-            value.push(b)?;
-            escaped = false;
-        }
-    }
-    Ok(Text::from_vec(value))
+    let inner = if spelled.len() < 2 {
+        &[]
+    } else {
+        &spelled[1..spelled.len() - 1]
+    };
+    Ok(Text::from_vec(unescaped(alloc, inner)?))
 }
 
 #[tactic(auto, unfolding(dg_decl::specs::Forms::text))]
