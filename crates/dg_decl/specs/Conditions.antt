@@ -68,9 +68,17 @@ abbrev pub instance_name : Item → Option Bytes
 instance_name (OpenLine n c) = Some n
 instance_name item = None
 
+abbrev pub is_this : Option Bytes → Bytes → Bool
+is_this None n = false
+is_this (Some m) n = bytes_eq m n
+
 -- one of the items has this name, of that kind of names
 abbrev pub declares : (Item → Option Bytes) → Bytes → List Item → Bool
-declares name_in n items = is_among n (filter_map name_in items)
+declares name_in n items = list_any (λ item. is_this (name_in item) n) items
+
+-- one of the items has a name of that kind
+abbrev pub has_some : (Item → Option Bytes) → List Item → Bool
+has_some name_in items = list_any (λ item. is_some (name_in item)) items
 
 -- neither predefined, nor declared outside blocks before
 abbrev pub is_new : Bytes → List Item → Bool
@@ -147,9 +155,9 @@ has_entry entry (Some class) earlier = is_some (entry_of class entry earlier)
 -- where exactly one `provides` line of the component's modules gives its type.
 abbrev pub is_admitted : Item → List Item → Bool
 is_admitted (Class n ps) earlier = is_new n earlier && list_all is_text_param ps && are_distinct (map name_of_param ps)
-is_admitted (Module n) earlier = is_new n earlier && length (filter_map module_name earlier) == 0
+is_admitted (Module n) earlier = is_new n earlier && not (has_some module_name earlier)
 is_admitted (Component n ms) earlier =
-    is_new n earlier && length (filter_map component_name earlier) == 0 && list_all (λ m. declares module_name m earlier) ms
+    is_new n earlier && not (has_some component_name earlier) && list_all (λ m. declares module_name m earlier) ms
 is_admitted (Provides n t b) earlier = is_new_member n earlier && is_known_shape t.shape earlier && checks b t earlier
 is_admitted (Entry n t) earlier =
     is_new_member n earlier && is_known_shape t.shape earlier && length (bindings (open_modules (open_block earlier)) t earlier) == 1

@@ -1,4 +1,5 @@
 //! Documents from bytes to replies: what the programs do, over any source and sink.
 #![tactic(auto)]
 
+mod lookup;
 mod reader;

@@ -3,5 +3,6 @@
 mod fault;
 mod forms;
 mod lexemes;
+mod meaning;
 
 pub use fault::FormFault;
