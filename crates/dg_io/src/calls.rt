@@ -7,10 +7,10 @@ pub(crate) struct Calls {
     /// The numbers, from 1, of the calls that are to fail.
     pub(crate) bad: Vec<u64>,
 
-    /// How many calls were made. It stays at the last u64.
+    /// How many calls were made. The count stops at 2^64 - 1.
     pub(crate) made: u64,
 
-    /// How many calls failed. It stays at the last u64.
+    /// How many calls failed. The count stops at 2^64 - 1.
     pub(crate) failed: u64,
 }
 
@@ -33,8 +33,8 @@ impl Calls {
     }
 }
 
-/// Whether the call after so many calls is to fail. A call past the last u64 has no number that can
-/// stand in the list.
+/// Whether the call after so many calls is to fail. A call past number 2^64 - 1 cannot stand in
+/// the list.
 fn next_is_bad(bad: &[u64], made: u64) -> bool
     ensures exact { IsTrue result ↔ Contains bad.now (made + 1) }
 {

@@ -14,7 +14,7 @@ pub enum Step {
     Filled { inst: u32, slot: u32 },
 }
 
-/// Who is told of each step of a run, in the order in which the one who tells it takes them.
+/// An observer of a run, which is told of its steps one after another.
 pub trait Gate {
     ghost use Rattle.std.specs.Prelude.{List};
     ghost use Rattle.std.specs.declared.option.Option.{Option};
@@ -24,7 +24,7 @@ pub trait Gate {
     // The steps that were told, the first one first, where they are known.
     ghost heard: { Self → Option (List Step) };
 
-    /// Tells of one step. A gate that cannot keep it lets the list go: it is not known from then on.
+    /// Tells of one step. After a step that a gate cannot keep, the list is no longer known.
     fn told(&mut self, step: Step)
         ensures exact { Hears (heard self.old) (heard self.new) step };
 }

@@ -1,4 +1,4 @@
-ghost use Rattle.std.specs.Prelude.{◌≡◌, ◌↔◌, Some, IsErr, IfOk, OnErr};
+ghost use Rattle.std.specs.Prelude.{◌≡◌, ◌<◌, ◌↔◌, Some, IsErr, IfOk, OnErr};
 ghost use Rattle.std.specs.Io.KnownBytes.{WriteAppends};
 ghost use Rattle.dg_io.specs.Causes.{HasCause, TakesFront};
 ghost use Rattle.dg_io.specs.Memory.{new_sink, sink_failed, RefusesPiece, Takes};
@@ -29,16 +29,22 @@ impl Model for MemSink {
 }
 
 impl MemSink {
-    /// A sink that takes up to `room` bytes in all, and reserves them here. The calls whose
-    /// numbers, counted from 1, stand in `bad` fail. The sink owns that list.
+    /// A sink that takes up to `room` bytes in all, and reserves memory for them here. The calls
+    /// whose numbers, counted from 1, stand in `bad` fail. The sink owns that list, which is dropped
+    /// with `NoMemory`. Without room no memory is needed.
     pub fn with_room(alloc: Global, room: usize, bad: Vec<u64>) -> Result<MemSink, NoMemory>
         ensures exact { IfOk result (λ sink. sink ≡ new_sink room bad.items) }
+        ensures cause { OnErr result (0 < room) }
     {
         let bytes = Vec::with_capacity(alloc, room)?;
         Ok(MemSink {
             bytes,
             room,
-            calls: Calls { bad, made: 0, failed: 0 },
+            calls: Calls {
+                bad,
+                made: 0,
+                failed: 0,
+            },
         })
     }
 
@@ -55,7 +61,7 @@ impl Sink for MemSink {
 
     ghost faults = { λ s. s.faults };
 
-    /// Takes no memory, since `with_room` reserved it.
+    /// Takes as much of `piece` as there is room for. Takes no memory, since `with_room` reserved it.
     fn write(&mut self, piece: &[u8]) -> Result<usize, Failed>
         ensures bound { TakesFront result piece.now }
         ensures exact { WriteAppends (Some self.old.written) (Some self.new.written) result piece.now }

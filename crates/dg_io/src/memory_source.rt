@@ -41,7 +41,11 @@ impl MemSource {
             bytes,
             start: 0,
             piece,
-            calls: Calls { bad, made: 0, failed: 0 },
+            calls: Calls {
+                bad,
+                made: 0,
+                failed: 0,
+            },
         }
     }
 }

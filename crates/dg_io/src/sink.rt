@@ -10,7 +10,7 @@ pub trait Sink {
     // The bytes taken so far, where they are known.
     ghost written: { Self → Option (List ℕ) };
 
-    // How many calls failed. The count never falls, and stays at 2^64 - 1.
+    // How many calls failed. The count never falls, and stops at 2^64 - 1.
     ghost faults: { Self → ℕ };
 
     /// Takes some bytes of the front of `piece`, and says how many: at least one, where `piece` is

@@ -11,7 +11,7 @@ pub trait Source {
     // The bytes still to come, where they are known.
     ghost left: { Self → Option (List ℕ) };
 
-    // How many calls failed. The count never falls, and stays at 2^64 - 1.
+    // How many calls failed. The count never falls, and stops at 2^64 - 1.
     ghost faults: { Self → ℕ };
 
     /// Puts some of the next bytes at the front of `buf`, and says how many. 0 for a `buf` that is

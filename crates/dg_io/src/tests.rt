@@ -1,5 +1,3 @@
-ghost use Rattle.std.specs.Prelude.{◌≤◌};
-
 use crate::{
     Failed, Gate, MemSink, MemSource, NoMemory, QuietGate, Sink, Source, StdSink, StdSource, Step,
 };
@@ -19,14 +17,15 @@ fn read_to_end<S: Source>(source: &mut S, bytes: &mut Vec<u8>) -> Result<u32, Fa
     Ok(0)
 }
 
-fn source_of(alloc: Global, text: &[u8], piece: usize, bad: &[u64]) -> Result<MemSource, AllocError>
-    requires { 1 ≤ piece }
-{
-    Ok(MemSource::new(
-        text.to_vec(alloc)?,
-        piece,
-        bad.to_vec(alloc)?,
-    ))
+fn source_of(
+    alloc: Global,
+    text: &[u8],
+    piece: usize,
+    bad: &[u64],
+) -> Result<MemSource, AllocError> {
+    let text = text.to_vec(alloc)?;
+    let bad = bad.to_vec(alloc)?;
+    Ok(MemSource::new(text, piece.max(1), bad))
 }
 
 fn write<K: Sink>(sink: &mut K, piece: &[u8]) -> Result<usize, Failed> {
@@ -41,13 +40,11 @@ fn tell<G: Gate + Send>(gate: &mut G, step: Step) {
 fn memory_is_read_in_pieces(rt: HostRuntime) -> Result<(), Fail> {
     let text = b"the quick brown fox!";
     for (piece, calls) in [(1, 21), (7, 4), (4096, 3)] {
-        if piece >= 1 {
-            let mut source = source_of(rt.alloc(), text, piece, &[])?;
-            let mut bytes = Vec::new(rt.alloc());
-            let made = read_to_end(&mut source, &mut bytes)?;
-            assert_eq!(rt; made, calls, "in pieces of {piece}");
-            assert_eq!(rt; bytes.as_slice(), text.as_slice());
-        }
+        let mut source = source_of(rt.alloc(), text, piece, &[])?;
+        let mut bytes = Vec::new(rt.alloc());
+        let made = read_to_end(&mut source, &mut bytes)?;
+        assert_eq!(rt; made, calls, "in pieces of {piece}");
+        assert_eq!(rt; bytes.as_slice(), text.as_slice());
     }
     Ok(())
 }
