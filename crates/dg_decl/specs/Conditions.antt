@@ -146,6 +146,10 @@ open_modules (Some (Component n ms)) = ms
 open_modules (Some item) = []
 open_modules None = []
 
+-- exactly one `provides` line of the modules of the component with this header gives this type
+abbrev pub is_bound_once : Option Item → TypeUse → List Item → Bool
+is_bound_once header t earlier = length (bindings (open_modules header) t earlier) == 1
+
 abbrev pub has_entry : Bytes → Option Bytes → List Item → Bool
 has_entry entry None earlier = false
 has_entry entry (Some class) earlier = is_some (entry_of class entry earlier)
@@ -160,7 +164,7 @@ is_admitted (Component n ms) earlier =
     is_new n earlier && not (has_some component_name earlier) && list_all (λ m. declares module_name m earlier) ms
 is_admitted (Provides n t b) earlier = is_new_member n earlier && is_known_shape t.shape earlier && checks b t earlier
 is_admitted (Entry n t) earlier =
-    is_new_member n earlier && is_known_shape t.shape earlier && length (bindings (open_modules (open_block earlier)) t earlier) == 1
+    is_new_member n earlier && is_known_shape t.shape earlier && is_bound_once (open_block earlier) t earlier
 is_admitted End earlier = true
 is_admitted (OpenLine n c) earlier = not (declares instance_name n earlier) && declares component_name c earlier
 is_admitted (AskLine i e) earlier = has_entry e (class_of i earlier) earlier

@@ -1,5 +1,7 @@
 //! Reads a document from its bytes.
 
+mod conditions;
+mod draft;
 mod fault;
 mod forms;
 mod lexemes;

@@ -1,0 +1,23 @@
+-- What a draft of a document keeps beside its items: where the open block begins.
+use Rattle.std.specs.Prelude.{◌≡◌, ℕ, zero, suc, ◌≤◌, List, length, drop, slice_get, Option, Some, None}
+use Rattle.dg_decl.specs.declared.item.Item.{Item}
+use Rattle.dg_decl.specs.declared.item.Item.TheVariants.{Class, Module, Component, Provides, Entry, End, OpenLine, AskLine}
+use Rattle.dg_decl.specs.Blocks.{open_block, in_open_block}
+
+-- an item that opens a block
+abbrev pub header_of : Option Item → Option Item
+header_of (Some (Module n)) = Some (Module n)
+header_of (Some (Component n ms)) = Some (Component n ms)
+header_of (Some item) = None
+header_of None = None
+
+-- the header that stands just before a place, if one does
+abbrev pub header_before : ℕ → List Item → Option Item
+header_before zero items = None
+header_before (suc place) items = header_of (slice_get items place)
+
+-- the open block begins at this place: its header stands just before it, and all its members stand from there on
+pub record BeginsAt (items : List Item) (start : ℕ) : Type 0 where
+  pub within : start ≤ length items
+  pub header : header_before start items ≡ open_block items
+  pub members : drop start items ≡ in_open_block items

@@ -1,0 +1,286 @@
+//! What an item asks of the items before it.
+
+ghost use Rattle.std.specs.Prelude.{◌≡◌, ◌&&◌, Option, None, Some};
+ghost use Rattle.std.specs.Option.{option_copied, option_map};
+ghost use Rattle.std.specs.List.{list_all};
+ghost use Rattle.std.specs.Prelude.{map};
+ghost use Rattle.dg_decl.specs.Blocks as blocks;
+ghost use Rattle.dg_decl.specs.Bytes as bytes;
+ghost use Rattle.dg_decl.specs.Conditions as conditions;
+ghost use Rattle.dg_decl.specs.Lookup as lookup;
+
+use crate::lookup::{class_of, count_bindings, entry_of, is_among, params_of};
+use dg_decl::{Expr, Item, Param};
+use dg_types::{Name, Shape, TypeUse};
+
+/// Whether an item may stand in the block with this header, or outside blocks where there is none.
+pub fn may_stand(header: Option<&Item>, item: &Item) -> bool
+    ensures exact { result ≡ conditions.may_stand (option_copied header.entry) item.now }
+{
+    match item {
+        Item::Provides { .. } => matches!(header, Some(Item::Module { .. })),
+        Item::Entry { .. } => matches!(header, Some(Item::Component { .. })),
+        Item::End => header.is_some(),
+        _ => header.is_none(),
+    }
+}
+
+/// Names that no document declares.
+const PREDEFINED: [&[u8]; 38] = [
+    b"Text",
+    b"Int",
+    b"Set",
+    b"Map",
+    b"Optional",
+    b"Provider",
+    b"Lazy",
+    b"Producer",
+    b"Produced",
+    b"Named",
+    b"Inject",
+    b"InstallIn",
+    b"IntoSet",
+    b"ElementsIntoSet",
+    b"IntoMap",
+    b"StringKey",
+    b"IntKey",
+    b"SingletonComponent",
+    b"ActivityRetainedComponent",
+    b"ServiceComponent",
+    b"ViewModelComponent",
+    b"ActivityComponent",
+    b"FragmentComponent",
+    b"ViewComponent",
+    b"ViewWithFragmentComponent",
+    b"Singleton",
+    b"ActivityRetainedScoped",
+    b"ServiceScoped",
+    b"ViewModelScoped",
+    b"ActivityScoped",
+    b"FragmentScoped",
+    b"ViewScoped",
+    b"Application",
+    b"Service",
+    b"SavedStateHandle",
+    b"Activity",
+    b"Fragment",
+    b"View",
+];
+
+fn is_predefined(name: &[u8]) -> bool
+    ensures exact { result ≡ bytes.is_among name.now conditions.predefined }
+{
+    PREDEFINED.iter().any(|word| *word == name)
+}
+
+/// The name that an item declares outside blocks.
+fn outer_name(item: &Item) -> Option<&Name>
+    ensures exact { option_copied result ≡ conditions.outer_name item.now }
+{
+    match item {
+        Item::Class { name, .. } | Item::Module { name } | Item::Component { name, .. } => {
+            Some(name)
+        }
+        _ => None,
+    }
+}
+
+/// The name that a member declares in its block.
+fn member_name(item: &Item) -> Option<&Name>
+    ensures exact { option_copied result ≡ conditions.member_name item.now }
+{
+    match item {
+        Item::Provides { name, .. } | Item::Entry { name, .. } => Some(name),
+        _ => None,
+    }
+}
+
+fn declares_outer(name: &[u8], items: &[Item]) -> bool
+    ensures exact { result ≡ conditions.declares conditions.outer_name name.now items.now }
+{
+    items
+        .iter()
+        .any(|item| outer_name(item).is_some_and(|n| n.is(name)))
+}
+
+fn declares_member(name: &[u8], items: &[Item]) -> bool
+    ensures exact { result ≡ conditions.declares conditions.member_name name.now items.now }
+{
+    items
+        .iter()
+        .any(|item| member_name(item).is_some_and(|n| n.is(name)))
+}
+
+fn declares_module(name: &[u8], items: &[Item]) -> bool
+    ensures exact { result ≡ conditions.declares conditions.module_name name.now items.now }
+{
+    items
+        .iter()
+        .any(|item| matches!(item, Item::Module { name: n } if n.is(name)))
+}
+
+fn declares_component(name: &[u8], items: &[Item]) -> bool
+    ensures exact { result ≡ conditions.declares conditions.component_name name.now items.now }
+{
+    items
+        .iter()
+        .any(|item| matches!(item, Item::Component { name: n, .. } if n.is(name)))
+}
+
+fn declares_instance(name: &[u8], items: &[Item]) -> bool
+    ensures exact { result ≡ conditions.declares conditions.instance_name name.now items.now }
+{
+    items
+        .iter()
+        .any(|item| matches!(item, Item::OpenLine { name: n, .. } if n.is(name)))
+}
+
+fn has_module(items: &[Item]) -> bool
+    ensures exact { result ≡ conditions.has_some conditions.module_name items.now }
+{
+    items.iter().any(|item| matches!(item, Item::Module { .. }))
+}
+
+fn has_component(items: &[Item]) -> bool
+    ensures exact { result ≡ conditions.has_some conditions.component_name items.now }
+{
+    items
+        .iter()
+        .any(|item| matches!(item, Item::Component { .. }))
+}
+
+fn is_new(name: &[u8], earlier: &[Item]) -> bool
+    ensures exact { result ≡ conditions.is_new name.now earlier.now }
+{
+    !is_predefined(name) && !declares_outer(name, earlier)
+}
+
+fn are_distinct(params: &[Param]) -> bool
+    ensures exact { result ≡ conditions.are_distinct (map conditions.name_of_param params.now) }
+{
+    let mut rest = params;
+    while let [first, more @ ..] = rest {
+        if more.iter().any(|p| p.name.is(first.name.as_slice())) {
+            return false;
+        }
+        rest = more;
+    }
+    true
+}
+
+fn are_texts(params: &[Param]) -> bool
+    ensures exact { result ≡ list_all conditions.is_text_param params.now }
+{
+    params
+        .iter()
+        .all(|param| matches!(param.shape.shape, Shape::Text))
+}
+
+fn is_known(shape: &Shape, earlier: &[Item]) -> bool
+    ensures exact { result ≡ conditions.is_known_shape shape.now earlier.now }
+{
+    match shape {
+        Shape::Text => true,
+        Shape::Named(name) => params_of(name.as_slice(), earlier).is_some(),
+    }
+}
+
+fn arguments_check(args: &[Expr], params: &[Param]) -> bool
+    ensures exact { result ≡ conditions.arguments_check args.now params.now }
+{
+    let mut args = args;
+    let mut params = params;
+    loop {
+        match (args, params) {
+            ([], []) => return true,
+            ([arg, more_args @ ..], [param, more_params @ ..]) => {
+                if !matches!((arg, &param.shape.shape), (Expr::Text(_), Shape::Text)) {
+                    return false;
+                }
+                args = more_args;
+                params = more_params;
+            }
+            _ => return false,
+        }
+    }
+}
+
+/// Whether a constant has a type.
+fn checks(body: &Expr, wanted: &TypeUse, earlier: &[Item]) -> bool
+    ensures exact { result ≡ conditions.checks body.now wanted.now earlier.now }
+{
+    match (body, &wanted.shape) {
+        (Expr::Text(_), Shape::Text) => true,
+        (Expr::New { class, args }, Shape::Named(name)) => {
+            class.is(name.as_slice())
+                && match params_of(class.as_slice(), earlier) {
+                    Some(params) => arguments_check(args.as_slice(), params),
+                    None => false,
+                }
+        }
+        _ => false,
+    }
+}
+
+fn has_entry(inst: &[u8], entry: &[u8], earlier: &[Item]) -> bool
+    ensures exact { result ≡ conditions.has_entry entry.now (lookup.class_of inst.now earlier.now) earlier.now }
+{
+    match class_of(inst, earlier) {
+        Some(class) => entry_of(class, entry, earlier).is_some(),
+        None => false,
+    }
+}
+
+/// Whether exactly one `provides` line of the modules of the component with this header gives this type.
+fn is_bound_once(header: Option<&Item>, wanted: &TypeUse, earlier: &[Item]) -> bool
+    ensures exact { result ≡ conditions.is_bound_once (option_copied header.entry) wanted.now earlier.now }
+{
+    match header {
+        Some(Item::Component { modules, .. }) => {
+            count_bindings(modules.as_slice(), wanted, earlier) == 1
+        }
+        _ => count_bindings(&[], wanted, earlier) == 1,
+    }
+}
+
+/// Whether an item meets its conditions, where the open block has this header and these members.
+pub fn is_admitted(item: &Item, header: Option<&Item>, members: &[Item], earlier: &[Item]) -> bool
+    requires header { option_copied header.entry ≡ blocks.open_block earlier.now }
+    requires members { members.now ≡ blocks.in_open_block earlier.now }
+    ensures exact { result ≡ conditions.is_admitted item.now earlier.now }
+{
+    match item {
+        Item::Class { name, params } => {
+            is_new(name.as_slice(), earlier)
+                && are_texts(params.as_slice())
+                && are_distinct(params.as_slice())
+        }
+        Item::Module { name } => is_new(name.as_slice(), earlier) && !has_module(earlier),
+        Item::Component { name, modules } => {
+            is_new(name.as_slice(), earlier)
+                && !has_component(earlier)
+                && modules
+                    .as_slice()
+                    .iter()
+                    .all(|module| declares_module(module.as_slice(), earlier))
+        }
+        Item::Provides { name, result, body } => {
+            is_new(name.as_slice(), earlier)
+                && !declares_member(name.as_slice(), members)
+                && is_known(&result.shape, earlier)
+                && checks(body, result, earlier)
+        }
+        Item::Entry { name, result } => {
+            is_new(name.as_slice(), earlier)
+                && !declares_member(name.as_slice(), members)
+                && is_known(&result.shape, earlier)
+                && is_bound_once(header, result, earlier)
+        }
+        Item::End => true,
+        Item::OpenLine { name, class } => {
+            !declares_instance(name.as_slice(), earlier)
+                && declares_component(class.as_slice(), earlier)
+        }
+        Item::AskLine { inst, entry } => has_entry(inst.as_slice(), entry.as_slice(), earlier),
+    }
+}
