@@ -1,5 +1,5 @@
 -- The number that digits write only grows with more digits.
-use Rattle.std.proofs.Common.{ℕ, ◌≡◌, ◌+◌, ◌-◌, ◌*◌, ◌≤◌, ◌<◌, Bool, true, false, ◌&&◌, nat_lt, List, [], ◌∷◌, length, get_or, slice_index, drop, fold, refl, arith}
+use Rattle.std.proofs.Common.{ℕ, ◌≡◌, ◌+◌, ◌-◌, ◌*◌, ◌≤◌, ◌<◌, Bool, true, false, ◌&&◌, nat_lt, [], ◌∷◌, length, get_or, slice_index, drop, fold, refl, arith}
 use Rattle.std.proofs.lemmas.List.{at_drop_more}
 use Rattle.dg_decl.specs.Bytes.{Bytes}
 use Rattle.dg_decl.specs.Tokens.{is_counting, is_integer}

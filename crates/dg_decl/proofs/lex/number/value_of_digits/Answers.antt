@@ -1,4 +1,4 @@
-use Rattle.std.proofs.Common.{◌≡◌, ◌≤◌, ◌<◌, length, fold, rules, arith, sym, ◌∙◌}
+use Rattle.std.proofs.Common.{◌≡◌, fold, rules, arith, sym, ◌∙◌}
 use Rattle.std.proofs.lemmas.List.{at_drop_all}
 use Rattle.dg_decl.specs.Tokens.{value_of_digits}
 use Rattle.dg_decl.proofs.NumberLemmas.{with_digit, next-grows}
