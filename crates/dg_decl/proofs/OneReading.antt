@@ -7,7 +7,7 @@ use Rattle.dg_decl.specs.declared.item.Item.{Item}
 use Rattle.dg_decl.specs.Bytes.{Bytes}
 use Rattle.dg_decl.specs.Lines.{lines_of, rest_of}
 use Rattle.dg_decl.specs.Blocks.{open_block}
-use Rattle.dg_decl.specs.Reading.{items_of, places_of, is_good_at, IsBad, line, rest, open_end, FirstBad, Reads, IsReadOnce, IsRefusedOnce, OneReading}
+use Rattle.dg_decl.specs.Reading.{items_of, places_of, is_good_at, IsBad, bad_line, bad_rest, bad_end, FirstBad, Reads, IsReadOnce, IsRefusedOnce, OneReading}
 
 -- each number below k passes, or there is a first one that doesn't
 record IsFirstFailing (p : ℕ → Bool) (k n : ℕ) : Type 0 where
@@ -50,14 +50,14 @@ AllGood bytes = (m : ℕ) → m < length (lines_of bytes) → is_next_good bytes
 
 -- where each line is good, only the end is bad
 only_end : (bytes : Bytes) (n : ℕ) → AllGood bytes → IsBad bytes n → n ≡ length (lines_of bytes) + 1
-only_end bytes n all (line one le fails) = absurd (false≢true (sym fails ∙ good_from bytes (length (lines_of bytes)) n all one le))
-only_end bytes n all (rest at more) = at
-only_end bytes n all (open_end at still) = at
+only_end bytes n all (bad_line one le fails) = absurd (false≢true (sym fails ∙ good_from bytes (length (lines_of bytes)) n all one le))
+only_end bytes n all (bad_rest at more) = at
+only_end bytes n all (bad_end at still) = at
 
 none_at_end : (bytes : Bytes) (n : ℕ) → AllGood bytes → rest_of bytes ≡ [] → open_block (items_of (lines_of bytes)) ≡ None → IsBad bytes n → ⊥
-none_at_end bytes n all no_rest closed (line one le fails) = false≢true (sym fails ∙ good_from bytes (length (lines_of bytes)) n all one le)
-none_at_end bytes n all no_rest closed (rest at more) = more no_rest
-none_at_end bytes n all no_rest closed (open_end at still) = false≢true (subst (λ (o : Option Item). IsSome o) closed still)
+none_at_end bytes n all no_rest closed (bad_line one le fails) = false≢true (sym fails ∙ good_from bytes (length (lines_of bytes)) n all one le)
+none_at_end bytes n all no_rest closed (bad_rest at more) = more no_rest
+none_at_end bytes n all no_rest closed (bad_end at still) = false≢true (subst (λ (o : Option Item). IsSome o) closed still)
 
 abbrev doc_of : List Item → List ℕ → Doc
 doc_of items lines = record { items = items; lines = lines }
@@ -95,15 +95,15 @@ refused_at_end bytes all bad none_read =
 with_end : (bytes : Bytes) (r : Bytes) (o : Option Item) → AllGood bytes → rest_of bytes ≡ r → open_block (items_of (lines_of bytes)) ≡ o → IsReadOnce bytes ⊎ IsRefusedOnce bytes
 with_end bytes [] None all no_rest closed = inl (read_once bytes all no_rest closed)
 with_end bytes [] (Some header) all no_rest still =
-    inr (refused_at_end bytes all (open_end refl (subst (λ (o : Option Item). IsSome o) (sym still) refl)) (λ doc r. absurd (let e : Some header ≡ None = sym still ∙ r.closed in cc)))
+    inr (refused_at_end bytes all (bad_end refl (subst (λ (o : Option Item). IsSome o) (sym still) refl)) (λ doc r. absurd (let e : Some header ≡ None = sym still ∙ r.closed in cc)))
 with_end bytes (b ∷ z) o all more at =
-    inr (refused_at_end bytes all (rest refl (λ nothing. absurd (let e : b ∷ z ≡ [] = sym more ∙ nothing in cc))) (λ doc r. absurd (let e : b ∷ z ≡ [] = sym more ∙ r.no_rest in cc)))
+    inr (refused_at_end bytes all (bad_rest refl (λ nothing. absurd (let e : b ∷ z ≡ [] = sym more ∙ nothing in cc))) (λ doc r. absurd (let e : b ∷ z ≡ [] = sym more ∙ r.no_rest in cc)))
 
 refused_at : (bytes : Bytes) (n : ℕ) → IsFirstFailing (is_next_good bytes) (length (lines_of bytes)) n → IsRefusedOnce bytes
 refused_at bytes n found =
     let lt : n < length (lines_of bytes) = found.below in
     let earlier : (m : ℕ) → m < n + 1 → IsBad bytes m → ⊥ = λ m below bad. not_before bytes n m found below bad in
-    let first : FirstBad bytes (n + 1) = record { is_bad = line (omega arith) (omega arith) found.fails; is_first = earlier } in
+    let first : FirstBad bytes (n + 1) = record { is_bad = bad_line (omega arith) (omega arith) found.fails; is_first = earlier } in
     record {
       line = n + 1;
       first_bad = first;
@@ -112,9 +112,9 @@ refused_at bytes n found =
     }
   where
     not_before : (bytes : Bytes) (n m : ℕ) → IsFirstFailing (is_next_good bytes) (length (lines_of bytes)) n → m < n + 1 → IsBad bytes m → ⊥
-    not_before bytes n m found below (line one le fails) = false≢true (sym fails ∙ good_from bytes n m found.earlier one (omega arith))
-    not_before bytes n m found below (rest at more) = absurd (let lt : n < length (lines_of bytes) = found.below in omega arith)
-    not_before bytes n m found below (open_end at still) = absurd (let lt : n < length (lines_of bytes) = found.below in omega arith)
+    not_before bytes n m found below (bad_line one le fails) = false≢true (sym fails ∙ good_from bytes n m found.earlier one (omega arith))
+    not_before bytes n m found below (bad_rest at more) = absurd (let lt : n < length (lines_of bytes) = found.below in omega arith)
+    not_before bytes n m found below (bad_end at still) = absurd (let lt : n < length (lines_of bytes) = found.below in omega arith)
 
 pub reads_once : OneReading
 reads_once bytes =

@@ -15,14 +15,15 @@ use Rattle.dg_decl.specs.Conditions.{may_follow}
 unfoldable pub items_of : List Bytes → List Item
 items_of lines = filter_map item_of lines
 
+-- a line's number before those of later lines, where the line has an item
+abbrev pub with_place : Option Item → ℕ → List ℕ → List ℕ
+with_place None n later = later
+with_place (Some item) n later = n ∷ later
+
 -- the number of each line that has an item, where the first line has this number
 abbrev pub places_from : ℕ → List Bytes → List ℕ
 places_from n [] = []
-places_from n (line ∷ lines) = place_of (item_of line) n (places_from (n + 1) lines)
-  where
-    place_of : Option Item → ℕ → List ℕ → List ℕ
-    place_of None n rest = rest
-    place_of (Some item) n rest = n ∷ rest
+places_from n (line ∷ lines) = with_place (item_of line) n (places_from (n + 1) lines)
 
 unfoldable pub places_of : List Bytes → List ℕ
 places_of lines = places_from 1 lines
@@ -42,9 +43,9 @@ is_good_at lines n = is_good (slice_index_or lines (n - 1) []) (items_of (take (
 
 -- Line n is bad: it is a line that isn't good, or a rest without its LF, or the end where a block is still open.
 pub data IsBad (bytes : Bytes) (n : ℕ) : Type 0 where
-  line : 1 ≤ n → n ≤ length (lines_of bytes) → is_good_at (lines_of bytes) n ≡ false → IsBad bytes n
-  rest : n ≡ length (lines_of bytes) + 1 → rest_of bytes ≢ [] → IsBad bytes n
-  open_end : n ≡ length (lines_of bytes) + 1 → IsSome (open_block (items_of (lines_of bytes))) → IsBad bytes n
+  bad_line : 1 ≤ n → n ≤ length (lines_of bytes) → is_good_at (lines_of bytes) n ≡ false → IsBad bytes n
+  bad_rest : n ≡ length (lines_of bytes) + 1 → rest_of bytes ≢ [] → IsBad bytes n
+  bad_end : n ≡ length (lines_of bytes) + 1 → IsSome (open_block (items_of (lines_of bytes))) → IsBad bytes n
 
 -- line n is the first bad one
 pub record FirstBad (bytes : Bytes) (n : ℕ) : Type 0 where

@@ -1,3 +1,5 @@
 pub mod Gives
 pub mod First
 pub mod Drafts
+pub mod Adding
+pub mod ReadFaults

@@ -1,10 +1,13 @@
 //! Reads a document from its bytes.
 
 mod conditions;
+mod document;
 mod draft;
 mod fault;
 mod forms;
 mod lexemes;
 mod meaning;
+mod split;
 
-pub use fault::FormFault;
+pub use document::read_doc;
+pub use fault::ReadDocFault;

@@ -1,5 +1,6 @@
 ghost use Rattle.std.specs.Prelude.{◌≡◌};
 ghost use Rattle.dg_top.specs.declared.reader.fault.FormFault.TheVariants as fault;
+ghost use Rattle.dg_top.specs.declared.reader.fault.ReadDocFault.TheVariants as read;
 
 use dg_types::NoMemory;
 use std::alloc::{AllocError, AllocFailed};
@@ -34,5 +35,31 @@ impl From<NoMemory> for FormFault {
 
     fn from(_: NoMemory) -> FormFault {
         FormFault::NoMemory
+    }
+}
+
+/// Why a document isn't read.
+#[derive(Clone, Copy, Debug, PartialEq, Eq)]
+pub enum ReadDocFault {
+    /// The first bad line, counted from 1. A rest behind the last LF, and the end where a block is open, count as one
+    /// line more than there are.
+    BadLine { line: u32 },
+    /// There was no memory.
+    NoMemory,
+}
+
+impl From<AllocError> for ReadDocFault {
+    ghost from_gives = { λ _ e. e ≡ read.NoMemory };
+
+    fn from(_: AllocError) -> ReadDocFault {
+        ReadDocFault::NoMemory
+    }
+}
+
+impl From<NoMemory> for ReadDocFault {
+    ghost from_gives = { λ _ e. e ≡ read.NoMemory };
+
+    fn from(_: NoMemory) -> ReadDocFault {
+        ReadDocFault::NoMemory
     }
 }

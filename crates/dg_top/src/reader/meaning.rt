@@ -1,6 +1,8 @@
 //! What a line says by itself.
 
 ghost use Rattle.std.specs.Prelude.{◌≡◌, ◌||◌, IfOk};
+ghost use Rattle.std.specs.List.{list_all};
+ghost use Rattle.dg_decl.specs.Bytes as bytes;
 ghost use Rattle.dg_decl.specs.Lines as lines;
 ghost use Rattle.dg_decl.specs.Meaning as meaning;
 
@@ -15,10 +17,16 @@ use std::alloc::Global;
 /// The most bytes of a line, without the LF that ends it.
 const LINE_LIMIT: usize = 4096;
 
+fn are_plain(line: &[u8]) -> bool
+    ensures exact { result ≡ list_all bytes.is_plain line.now }
+{
+    line.iter().all(|b| 32 <= *b && *b <= 126)
+}
+
 fn is_printable(line: &[u8]) -> bool
     ensures exact { result ≡ lines.is_printable line.now }
 {
-    line.len() <= LINE_LIMIT && line.iter().all(|b| 32 <= *b && *b <= 126)
+    line.len() <= LINE_LIMIT && are_plain(line)
 }
 
 /// The line from its first byte that is no space on.

@@ -1,0 +1,59 @@
+-- What an ask gives, by looking its entry point up in the declarations.
+use Rattle.std.specs.Prelude.{ℕ, Bool, ◌&&◌, ◌==◌, List, [], ◌∷◌, Option, Some, None, unwrap_or, option_and_then}
+use Rattle.std.specs.Option.{option_map}
+use Rattle.dg_types.specs.declared.shape.TypeUse.{TypeUse}
+use Rattle.dg_decl.specs.declared.expression.Expr.{Expr, Expr-F, out-Expr}
+use Rattle.dg_decl.specs.declared.item.Item.{Item}
+use Rattle.dg_decl.specs.declared.item.Param.{Param}
+use Rattle.dg_decl.specs.Bytes.{Bytes}
+use Rattle.dg_decl.specs.Lookup.{params_of, modules_of, class_of, entry_of, bindings}
+use Rattle.dg_top.specs.First.{head}
+
+-- Where an object is made, which is its identity: the number of the ask for whose entry point it is made, and which
+-- `new` of the body makes it, in reading order. Both count from 1.
+pub record Place : Type 0 where
+  pub ask : ℕ
+  pub made : ℕ
+
+abbrev pub same_place : Place → Place → Bool
+same_place p q = p.ask == q.ask && p.made == q.made
+
+-- a text, or an object: its class, its identity, and its fields by name, each of them a text
+pub data Value : Type 0 where
+  Words : Bytes → Value
+  Object : (class : Bytes) → (identity : Place) → (fields : List (Bytes × Bytes)) → Value
+
+-- a text as an argument; no other argument has the type of a parameter
+abbrev pub text_in : Expr-F Expr → Bytes
+text_in (Expr-F.Text t) = t
+text_in (Expr-F.New c xs) = []
+
+-- each parameter with its argument
+abbrev pub fields_of : List Param → List Expr → List (Bytes × Bytes)
+fields_of [] xs = []
+fields_of (p ∷ ps) [] = []
+fields_of (p ∷ ps) (x ∷ xs) = (p.name, text_in (out-Expr x)) ∷ fields_of ps xs
+
+abbrev pub layer_value : List Item → ℕ → Expr-F Expr → Value
+layer_value items ask (Expr-F.Text t) = Words t
+layer_value items ask (Expr-F.New c xs) = Object c (record { ask = ask; made = 1 }) (fields_of (unwrap_or (params_of c items) []) xs)
+
+-- a constant, evaluated for an ask
+abbrev pub evaluate : List Item → ℕ → Expr → Value
+evaluate items ask body = layer_value items ask (out-Expr body)
+
+-- the body that is bound to this type in a component
+abbrev pub bound_in : List Item → Bytes → TypeUse → Option Expr
+bound_in items class type = option_and_then (λ modules. head (bindings modules type items)) (modules_of class items)
+
+-- the body that answers an entry point of a component
+abbrev pub body_of_entry : List Item → Bytes → Bytes → Option Expr
+body_of_entry items entry class = option_and_then (bound_in items class) (entry_of class entry items)
+
+-- the body that answers an ask: that of the entry point, in the component of which the instance is opened
+unfoldable pub body_of_ask : List Item → Bytes × Bytes → Option Expr
+body_of_ask items ask = option_and_then (body_of_entry items ask.1) (class_of ask.0 items)
+
+-- The value of an ask, an instance and an entry point, with its number. In a document that is read each ask has one.
+abbrev pub value_of_ask : List Item → ℕ → Bytes × Bytes → Option Value
+value_of_ask items number ask = option_map (evaluate items number) (body_of_ask items ask)
