@@ -70,7 +70,7 @@ const PREDEFINED: [&[u8]; 38] = [
 fn is_predefined(name: &[u8]) -> bool
     ensures exact { result ≡ bytes.is_among name.now conditions.predefined }
 {
-    PREDEFINED.iter().any(|word| *word == name)
+    PREDEFINED.iter().any(|word| name == *word)
 }
 
 /// The name that an item declares outside blocks.
@@ -155,12 +155,18 @@ fn is_new(name: &[u8], earlier: &[Item]) -> bool
     !is_predefined(name) && !declares_outer(name, earlier)
 }
 
+fn has_param(name: &[u8], params: &[Param]) -> bool
+    ensures exact { result ≡ bytes.is_among name.now (map conditions.name_of_param params.now) }
+{
+    params.iter().any(|param| param.name.is(name))
+}
+
 fn are_distinct(params: &[Param]) -> bool
     ensures exact { result ≡ conditions.are_distinct (map conditions.name_of_param params.now) }
 {
     let mut rest = params;
     while let [first, more @ ..] = rest {
-        if more.iter().any(|p| p.name.is(first.name.as_slice())) {
+        if has_param(first.name.as_slice(), more) {
             return false;
         }
         rest = more;
@@ -245,7 +251,7 @@ fn is_bound_once(header: Option<&Item>, wanted: &TypeUse, earlier: &[Item]) -> b
 
 /// Whether an item meets its conditions, where the open block has this header and these members.
 pub fn is_admitted(item: &Item, header: Option<&Item>, members: &[Item], earlier: &[Item]) -> bool
-    requires header { option_copied header.entry ≡ blocks.open_block earlier.now }
+    requires header { option_copied header ≡ blocks.open_block earlier.now }
     requires members { members.now ≡ blocks.in_open_block earlier.now }
     ensures exact { result ≡ conditions.is_admitted item.now earlier.now }
 {

@@ -21,10 +21,15 @@ pub struct Draft {
 
 impl Model for Draft {
     ghost use Rattle.std.specs.Prelude.{List};
+    ghost use Rattle.std.specs.Coded.{codes};
+    ghost use Rattle.dg_decl.specs.contracts.expression.Expr as expr;
     ghost use Rattle.dg_decl.specs.declared.item.Item.{Item};
-    ghost use Rattle.dg_top.specs.Drafts.{BeginsAt};
 
     ghost Value = { List Item };
+
+    ghost coded = { Prim.hlevel (codes, expr.the_row.coded) };
+
+    ghost use Rattle.dg_top.specs.Drafts.{BeginsAt};
 
     ghost view = { λ d. d.items.items };
 
