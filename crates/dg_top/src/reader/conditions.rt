@@ -2,7 +2,8 @@
 
 ghost use Rattle.std.specs.Prelude.{◌≡◌, ◌&&◌, Option, None, Some};
 ghost use Rattle.std.specs.Option.{option_copied, option_map};
-ghost use Rattle.std.specs.List.{list_all};
+ghost use Rattle.std.specs.List.{list_all, list_any};
+ghost use Rattle.std.specs.Str.{bytes_eq};
 ghost use Rattle.std.specs.Prelude.{map};
 ghost use Rattle.dg_decl.specs.Blocks as blocks;
 ghost use Rattle.dg_decl.specs.Bytes as bytes;
@@ -67,10 +68,16 @@ const PREDEFINED: [&[u8]; 38] = [
     b"View",
 ];
 
+fn is_word(name: &[u8], words: &[&[u8]]) -> bool
+    ensures exact { result ≡ list_any (λ word. bytes_eq name.now word.now) words.now }
+{
+    words.iter().any(|word| name == *word)
+}
+
 fn is_predefined(name: &[u8]) -> bool
     ensures exact { result ≡ bytes.is_among name.now conditions.predefined }
 {
-    PREDEFINED.iter().any(|word| name == *word)
+    is_word(name, &PREDEFINED)
 }
 
 /// The name that an item declares outside blocks.
@@ -156,11 +163,12 @@ fn is_new(name: &[u8], earlier: &[Item]) -> bool
 }
 
 fn has_param(name: &[u8], params: &[Param]) -> bool
-    ensures exact { result ≡ bytes.is_among name.now (map conditions.name_of_param params.now) }
+    ensures exact { result ≡ list_any (λ param. bytes_eq name.now param.name) params.now }
 {
     params.iter().any(|param| param.name.is(name))
 }
 
+#[tactic(auto, using(crate::proofs::ConditionLemmas::is_among_names))]
 fn are_distinct(params: &[Param]) -> bool
     ensures exact { result ≡ conditions.are_distinct (map conditions.name_of_param params.now) }
 {
@@ -182,6 +190,7 @@ fn are_texts(params: &[Param]) -> bool
         .all(|param| matches!(param.shape.shape, Shape::Text))
 }
 
+#[tactic(auto, using(crate::proofs::ConditionLemmas::still_some))]
 fn is_known(shape: &Shape, earlier: &[Item]) -> bool
     ensures exact { result ≡ conditions.is_known_shape shape.now earlier.now }
 {

@@ -4,6 +4,7 @@ ghost use Rattle.std.specs.Prelude.{◌≡◌, [], ◌∷◌, ◌++◌, OnOk, On
 ghost use Rattle.std.specs.Option.{option_copied};
 ghost use Rattle.dg_decl.specs.Blocks as blocks;
 ghost use Rattle.dg_decl.specs.Conditions as conditions;
+ghost use Rattle.dg_top.specs.Drafts as drafts;
 
 use crate::reader::conditions::{is_admitted, may_stand};
 use dg_decl::Item;
@@ -34,6 +35,16 @@ impl Model for Draft {
     ghost view = { λ d. d.items.items };
 
     ghost invariant = { λ d. BeginsAt d.items.items d.block_start };
+}
+
+/// Whether an item opens or ends a block.
+fn bounds_block(item: &Item) -> bool
+    ensures exact { result ≡ drafts.bounds_block item.now }
+{
+    matches!(
+        item,
+        Item::Module { .. } | Item::Component { .. } | Item::End
+    )
 }
 
 impl Draft {
@@ -76,10 +87,7 @@ impl Draft {
         ensures exact { OnOk result (self.new ≡ self.old ++ item ∷ []) }
         ensures lent { OnErr result (self.new ≡ self.old) }
     {
-        let bounds_block = matches!(
-            &item,
-            Item::Module { .. } | Item::Component { .. } | Item::End
-        );
+        let bounds_block = bounds_block(&item);
         self.items.push(item)?;
         if bounds_block {
             self.block_start = self.items.len();
