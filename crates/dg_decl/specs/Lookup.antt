@@ -72,12 +72,13 @@ same_shape (shape.Named m) (shape.Named n) = bytes_eq m n
 abbrev pub same_type : TypeUse → TypeUse → Bool
 same_type s t = same_shape s.shape t.shape
 
+-- what a `provides` line that gives this type gives, where it stands in one of the modules
+abbrev pub body_in : Bool → TypeUse → Item → Option Expr
+body_in true type (Provides n t b) = if same_type t type then Some b else None
+body_in stands type item = None
+
 abbrev pub binding_in : List Bytes → TypeUse → Option Item × Item → Option Expr
-binding_in modules type p = body_of_item (is_header_of_module modules p.0) type p.1
-  where
-    body_of_item : Bool → TypeUse → Item → Option Expr
-    body_of_item true type (Provides n t b) = if same_type t type then Some b else None
-    body_of_item stands type item = None
+binding_in modules type p = body_in (is_header_of_module modules p.0) type p.1
 
 -- the bodies of the `provides` lines in these modules that give this type
 abbrev pub bindings : List Bytes → TypeUse → List Item → List Expr

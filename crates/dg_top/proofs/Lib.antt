@@ -1,3 +1,5 @@
 pub mod ListLemmas
 pub mod SplitLemmas
 pub mod ReadingLemmas
+pub mod ConditionLemmas
+pub mod DraftLemmas

@@ -1,7 +1,9 @@
 //! What the items of a document declare, looked up by name and by type.
 
 ghost use Rattle.std.specs.Prelude.{◌≡◌, length, IsTrue, Option, None, Some};
+ghost use Rattle.dg_decl.specs.declared.item.Item.{Item};
 ghost use Rattle.std.specs.Option.{option_copied, option_map};
+ghost use Rattle.dg_decl.specs.Blocks as blocks;
 ghost use Rattle.dg_decl.specs.Bytes as bytes;
 ghost use Rattle.dg_decl.specs.Lookup as lookup;
 ghost use Rattle.dg_top.specs.First.{head};
@@ -91,20 +93,39 @@ pub fn same_type(a: &TypeUse, b: &TypeUse) -> bool
     same_shape(&a.shape, &b.shape)
 }
 
+/// Whether the items behind this one stand in one of the modules, where it is known of the item itself.
+fn stands_behind(stands: bool, item: &Item, modules: &[Name]) -> bool
+    ensures exact { (h : Option Item) → stands ≡ blocks.is_header_of_module modules.now h
+        → result ≡ blocks.is_header_of_module modules.now (blocks.open_after h item.now) }
+{
+    match item {
+        Item::Module { name } => is_among(name.as_slice(), modules),
+        Item::Component { .. } | Item::End => false,
+        _ => stands,
+    }
+}
+
+/// What a `provides` line that gives this type gives, where it stands in one of the modules.
+fn body_in<'a>(stands: bool, wanted: &TypeUse, item: &'a Item) -> Option<&'a Expr>
+    ensures exact { option_copied result ≡ lookup.body_in stands wanted.now item.now }
+{
+    match item {
+        Item::Provides { result, body, .. } if stands && same_type(result, wanted) => Some(body),
+        _ => None,
+    }
+}
+
 /// The body of the first `provides` line in these modules that gives this type.
 pub fn first_binding<'a>(modules: &[Name], wanted: &TypeUse, items: &'a [Item]) -> Option<&'a Expr>
     ensures exact { option_copied result ≡ head (lookup.bindings modules.now wanted.now items.now) }
 {
     let mut stands = false;
     for item in items {
-        match item {
-            Item::Module { name } => stands = is_among(name.as_slice(), modules),
-            Item::Component { .. } | Item::End => stands = false,
-            Item::Provides { result, body, .. } if stands && same_type(result, wanted) => {
-                return Some(body);
-            }
-            _ => {}
+        let body = body_in(stands, wanted, item);
+        if body.is_some() {
+            return body;
         }
+        stands = stands_behind(stands, item, modules);
     }
     None
 }
@@ -116,12 +137,10 @@ pub fn count_bindings(modules: &[Name], wanted: &TypeUse, items: &[Item]) -> usi
     let mut stands = false;
     let mut count = 0;
     for item in items {
-        match item {
-            Item::Module { name } => stands = is_among(name.as_slice(), modules),
-            Item::Component { .. } | Item::End => stands = false,
-            Item::Provides { result, .. } if stands && same_type(result, wanted) => count += 1,
-            _ => {}
+        if body_in(stands, wanted, item).is_some() {
+            count += 1;
         }
+        stands = stands_behind(stands, item, modules);
     }
     count
 }

@@ -1,9 +1,11 @@
 //! What an item asks of the items before it.
 
-ghost use Rattle.std.specs.Prelude.{◌≡◌, ◌&&◌, Option, None, Some};
+ghost use Rattle.std.specs.Prelude.{◌≡◌, ◌&&◌, Option, None, Some, is_some};
 ghost use Rattle.std.specs.Option.{option_copied, option_map};
-ghost use Rattle.std.specs.List.{list_all};
+ghost use Rattle.std.specs.List.{list_all, list_any};
+ghost use Rattle.std.specs.Str.{bytes_eq};
 ghost use Rattle.std.specs.Prelude.{map};
+ghost use Rattle.dg_decl.specs.declared.expression.Expr.{out-Expr};
 ghost use Rattle.dg_decl.specs.Blocks as blocks;
 ghost use Rattle.dg_decl.specs.Bytes as bytes;
 ghost use Rattle.dg_decl.specs.Conditions as conditions;
@@ -67,10 +69,16 @@ const PREDEFINED: [&[u8]; 38] = [
     b"View",
 ];
 
+fn is_word(name: &[u8], words: &[&[u8]]) -> bool
+    ensures exact { result ≡ list_any (λ word. bytes_eq name.now word.now) words.now }
+{
+    words.iter().any(|word| name == *word)
+}
+
 fn is_predefined(name: &[u8]) -> bool
     ensures exact { result ≡ bytes.is_among name.now conditions.predefined }
 {
-    PREDEFINED.iter().any(|word| *word == name)
+    is_word(name, &PREDEFINED)
 }
 
 /// The name that an item declares outside blocks.
@@ -141,6 +149,14 @@ fn has_module(items: &[Item]) -> bool
     items.iter().any(|item| matches!(item, Item::Module { .. }))
 }
 
+fn declare_modules(names: &[Name], items: &[Item]) -> bool
+    ensures exact { result ≡ list_all (λ name. conditions.declares conditions.module_name name items.now) names.now }
+{
+    names
+        .iter()
+        .all(|name| declares_module(name.as_slice(), items))
+}
+
 fn has_component(items: &[Item]) -> bool
     ensures exact { result ≡ conditions.has_some conditions.component_name items.now }
 {
@@ -155,12 +171,18 @@ fn is_new(name: &[u8], earlier: &[Item]) -> bool
     !is_predefined(name) && !declares_outer(name, earlier)
 }
 
+fn has_param(name: &[u8], params: &[Param]) -> bool
+    ensures exact { result ≡ bytes.is_among name.now (map conditions.name_of_param params.now) }
+{
+    params.iter().any(|param| param.name.is(name))
+}
+
 fn are_distinct(params: &[Param]) -> bool
     ensures exact { result ≡ conditions.are_distinct (map conditions.name_of_param params.now) }
 {
     let mut rest = params;
     while let [first, more @ ..] = rest {
-        if more.iter().any(|p| p.name.is(first.name.as_slice())) {
+        if has_param(first.name.as_slice(), more) {
             return false;
         }
         rest = more;
@@ -176,13 +198,25 @@ fn are_texts(params: &[Param]) -> bool
         .all(|param| matches!(param.shape.shape, Shape::Text))
 }
 
+fn is_class(name: &Name, earlier: &[Item]) -> bool
+    ensures exact { result ≡ is_some (lookup.params_of name.now earlier.now) }
+{
+    params_of(name.as_slice(), earlier).is_some()
+}
+
 fn is_known(shape: &Shape, earlier: &[Item]) -> bool
     ensures exact { result ≡ conditions.is_known_shape shape.now earlier.now }
 {
     match shape {
         Shape::Text => true,
-        Shape::Named(name) => params_of(name.as_slice(), earlier).is_some(),
+        Shape::Named(name) => is_class(name, earlier),
     }
+}
+
+fn argument_checks(arg: &Expr, shape: &Shape) -> bool
+    ensures exact { result ≡ conditions.argument_checks (out-Expr arg.now) shape.now }
+{
+    matches!((arg, shape), (Expr::Text(_), Shape::Text))
 }
 
 fn arguments_check(args: &[Expr], params: &[Param]) -> bool
@@ -191,17 +225,26 @@ fn arguments_check(args: &[Expr], params: &[Param]) -> bool
     let mut args = args;
     let mut params = params;
     loop {
-        match (args, params) {
-            ([], []) => return true,
-            ([arg, more_args @ ..], [param, more_params @ ..]) => {
-                if !matches!((arg, &param.shape.shape), (Expr::Text(_), Shape::Text)) {
-                    return false;
-                }
-                args = more_args;
-                params = more_params;
-            }
-            _ => return false,
+        let [arg, more_args @ ..] = args else {
+            return params.is_empty();
+        };
+        let [param, more_params @ ..] = params else {
+            return false;
+        };
+        if !argument_checks(arg, &param.shape.shape) {
+            return false;
         }
+        args = more_args;
+        params = more_params;
+    }
+}
+
+fn fits_params(args: &[Expr], params: Option<&[Param]>) -> bool
+    ensures exact { result ≡ conditions.fits_params args.now (option_map (λ ps. ps.now) params.entry) }
+{
+    match params {
+        Some(params) => arguments_check(args, params),
+        None => false,
     }
 }
 
@@ -213,20 +256,17 @@ fn checks(body: &Expr, wanted: &TypeUse, earlier: &[Item]) -> bool
         (Expr::Text(_), Shape::Text) => true,
         (Expr::New { class, args }, Shape::Named(name)) => {
             class.is(name.as_slice())
-                && match params_of(class.as_slice(), earlier) {
-                    Some(params) => arguments_check(args.as_slice(), params),
-                    None => false,
-                }
+                && fits_params(args.as_slice(), params_of(class.as_slice(), earlier))
         }
         _ => false,
     }
 }
 
-fn has_entry(inst: &[u8], entry: &[u8], earlier: &[Item]) -> bool
+fn has_entry(inst: &Name, entry: &Name, earlier: &[Item]) -> bool
     ensures exact { result ≡ conditions.has_entry entry.now (lookup.class_of inst.now earlier.now) earlier.now }
 {
-    match class_of(inst, earlier) {
-        Some(class) => entry_of(class, entry, earlier).is_some(),
+    match class_of(inst.as_slice(), earlier) {
+        Some(class) => entry_of(class, entry.as_slice(), earlier).is_some(),
         None => false,
     }
 }
@@ -245,7 +285,7 @@ fn is_bound_once(header: Option<&Item>, wanted: &TypeUse, earlier: &[Item]) -> b
 
 /// Whether an item meets its conditions, where the open block has this header and these members.
 pub fn is_admitted(item: &Item, header: Option<&Item>, members: &[Item], earlier: &[Item]) -> bool
-    requires header { option_copied header.entry ≡ blocks.open_block earlier.now }
+    requires header { option_copied header ≡ blocks.open_block earlier.now }
     requires members { members.now ≡ blocks.in_open_block earlier.now }
     ensures exact { result ≡ conditions.is_admitted item.now earlier.now }
 {
@@ -259,10 +299,7 @@ pub fn is_admitted(item: &Item, header: Option<&Item>, members: &[Item], earlier
         Item::Component { name, modules } => {
             is_new(name.as_slice(), earlier)
                 && !has_component(earlier)
-                && modules
-                    .as_slice()
-                    .iter()
-                    .all(|module| declares_module(module.as_slice(), earlier))
+                && declare_modules(modules.as_slice(), earlier)
         }
         Item::Provides { name, result, body } => {
             is_new(name.as_slice(), earlier)
@@ -281,6 +318,6 @@ pub fn is_admitted(item: &Item, header: Option<&Item>, members: &[Item], earlier
             !declares_instance(name.as_slice(), earlier)
                 && declares_component(class.as_slice(), earlier)
         }
-        Item::AskLine { inst, entry } => has_entry(inst.as_slice(), entry.as_slice(), earlier),
+        Item::AskLine { inst, entry } => has_entry(inst, entry, earlier),
     }
 }

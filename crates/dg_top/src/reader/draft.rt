@@ -4,6 +4,7 @@ ghost use Rattle.std.specs.Prelude.{◌≡◌, [], ◌∷◌, ◌++◌, OnOk, On
 ghost use Rattle.std.specs.Option.{option_copied};
 ghost use Rattle.dg_decl.specs.Blocks as blocks;
 ghost use Rattle.dg_decl.specs.Conditions as conditions;
+ghost use Rattle.dg_top.specs.Drafts as drafts;
 
 use crate::reader::conditions::{is_admitted, may_stand};
 use dg_decl::Item;
@@ -21,14 +22,29 @@ pub struct Draft {
 
 impl Model for Draft {
     ghost use Rattle.std.specs.Prelude.{List};
+    ghost use Rattle.std.specs.Coded.{codes};
+    ghost use Rattle.dg_decl.specs.contracts.expression.Expr as expr;
     ghost use Rattle.dg_decl.specs.declared.item.Item.{Item};
-    ghost use Rattle.dg_top.specs.Drafts.{BeginsAt};
 
     ghost Value = { List Item };
+
+    ghost coded = { Prim.hlevel (codes, expr.the_row.coded) };
+
+    ghost use Rattle.dg_top.specs.Drafts.{BeginsAt};
 
     ghost view = { λ d. d.items.items };
 
     ghost invariant = { λ d. BeginsAt d.items.items d.block_start };
+}
+
+/// Whether an item opens or ends a block.
+fn bounds_block(item: &Item) -> bool
+    ensures exact { result ≡ drafts.bounds_block item.now }
+{
+    matches!(
+        item,
+        Item::Module { .. } | Item::Component { .. } | Item::End
+    )
 }
 
 impl Draft {
@@ -71,10 +87,7 @@ impl Draft {
         ensures exact { OnOk result (self.new ≡ self.old ++ item ∷ []) }
         ensures lent { OnErr result (self.new ≡ self.old) }
     {
-        let bounds_block = matches!(
-            &item,
-            Item::Module { .. } | Item::Component { .. } | Item::End
-        );
+        let bounds_block = bounds_block(&item);
         self.items.push(item)?;
         if bounds_block {
             self.block_start = self.items.len();
