@@ -3,3 +3,4 @@ pub mod SplitLemmas
 pub mod ReadingLemmas
 pub mod ConditionLemmas
 pub mod DraftLemmas
+pub mod PrintLemmas

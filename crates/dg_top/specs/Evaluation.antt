@@ -28,11 +28,14 @@ abbrev pub text_in : Expr-F Expr → Bytes
 text_in (Expr-F.Text t) = t
 text_in (Expr-F.New c xs) = []
 
+abbrev pub text_of : Expr → Bytes
+text_of x = text_in (out-Expr x)
+
 -- each parameter with its argument
 abbrev pub fields_of : List Param → List Expr → List (Bytes × Bytes)
 fields_of [] xs = []
 fields_of (p ∷ ps) [] = []
-fields_of (p ∷ ps) (x ∷ xs) = (p.name, text_in (out-Expr x)) ∷ fields_of ps xs
+fields_of (p ∷ ps) (x ∷ xs) = (p.name, text_of x) ∷ fields_of ps xs
 
 abbrev pub layer_value : List Item → ℕ → Expr-F Expr → Value
 layer_value items ask (Expr-F.Text t) = Words t

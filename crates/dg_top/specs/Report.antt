@@ -19,9 +19,13 @@ quoted z = 34 ∷ flat_map escaped z ++ 34 ∷ []
 abbrev pub field_text : Bytes × Bytes → Bytes
 field_text field = field.0 ++ 61 ∷ quoted field.1
 
+-- `f=v,g=w`
+abbrev pub field_list : List (Bytes × Bytes) → Bytes
+field_list fields = join_with_byte 44 (map field_text fields)
+
 -- `{f=v,g=w}`
 unfoldable pub fields_text : List (Bytes × Bytes) → Bytes
-fields_text fields = 123 ∷ join_with_byte 44 (map field_text fields) ++ 125 ∷ []
+fields_text fields = 123 ∷ field_list fields ++ 125 ∷ []
 
 -- `C#n`
 abbrev pub numbered : Bytes → ℕ → Bytes

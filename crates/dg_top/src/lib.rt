@@ -3,3 +3,4 @@
 
 mod lookup;
 mod reader;
+mod report;

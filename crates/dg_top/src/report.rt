@@ -1,0 +1,199 @@
+//! What is written for a document that is read.
+
+ghost use Rattle.std.specs.Prelude.{◌≡◌, ◌++◌, ◌≤◌, ◌<◌, ◌^◌, ◌-◌, ℕ, IfOk, OnOk, decimal, take, drop, vec_len};
+ghost use Rattle.std.specs.Option.{option_copied};
+ghost use Rattle.dg_top.specs.Evaluation as evaluation;
+ghost use Rattle.dg_top.specs.Printing as printing;
+ghost use Rattle.dg_top.specs.Report as spec;
+
+use crate::lookup::{class_of, entry_of, first_binding, modules_of, params_of};
+use dg_decl::{Expr, Item, Param};
+use dg_types::NoMemory;
+use itoa::Buffer;
+use std::alloc::Global;
+
+/// The most bytes that are printed of a value.
+const VALUE_LIMIT: usize = 65536;
+
+/// The body that answers an ask of this entry point of this instance.
+#[tactic(auto, unfolding(crate::specs::Evaluation::body_of_ask))]
+fn body_of_ask<'a>(items: &'a [Item], inst: &[u8], entry: &[u8]) -> Option<&'a Expr>
+    ensures exact { option_copied result ≡ evaluation.body_of_ask items.now (inst.now, entry.now) }
+{
+    let class = class_of(inst, items)?;
+    let wanted = entry_of(class, entry, items)?;
+    first_binding(modules_of(class, items)?, wanted, items)
+}
+
+fn push_decimal(out: &mut Vec<u8>, n: usize) -> Result<(), NoMemory>
+    ensures exact { OnOk result (out.new.items ≡ out.old.items ++ decimal n) }
+{
+    let mut buffer = Buffer::new();
+    out.extend_from_slice(buffer.format(n).as_bytes())?;
+    Ok(())
+}
+
+fn push_escaped(out: &mut Vec<u8>, b: u8) -> Result<(), NoMemory>
+    ensures exact { OnOk result (out.new.items ≡ out.old.items ++ spec.escaped b) }
+{
+    if b == b'"' || b == b'\\' {
+        out.push(b'\\')?;
+    }
+    out.push(b)?;
+    Ok(())
+}
+
+/// Prints a text in quotes, with `\` before each `"` and `\`.
+#[tactic(auto, unfolding(crate::specs::Report::quoted))]
+fn push_quoted(out: &mut Vec<u8>, text: &[u8]) -> Result<(), NoMemory>
+    ensures exact { OnOk result (out.new.items ≡ out.old.items ++ spec.quoted text.now) }
+{
+    out.push(b'"')?;
+    for b in text {
+        push_escaped(out, *b)?;
+    }
+    out.push(b'"')?;
+    Ok(())
+}
+
+fn push_argument(out: &mut Vec<u8>, arg: &Expr) -> Result<(), NoMemory>
+    ensures exact { OnOk result (out.new.items ≡ out.old.items ++ spec.quoted (evaluation.text_of arg.now)) }
+{
+    match arg {
+        Expr::Text(text) => push_quoted(out, text.as_slice()),
+        Expr::New { .. } => push_quoted(out, &[]),
+    }
+}
+
+/// Prints one field, `f=v`.
+fn push_field(out: &mut Vec<u8>, param: &Param, arg: &Expr) -> Result<(), NoMemory>
+    ensures exact { OnOk result (out.new.items ≡ out.old.items ++ spec.field_text (param.now.name, evaluation.text_of arg.now)) }
+{
+    out.extend_from_slice(param.name.as_slice())?;
+    out.push(b'=')?;
+    push_argument(out, arg)
+}
+
+/// Prints the fields behind the first, each with a comma before it.
+fn push_later_fields(
+    out: &mut Vec<u8>,
+    mut params: &[Param],
+    mut args: &[Expr],
+) -> Result<(), NoMemory>
+    ensures exact { OnOk result (out.new.items ≡ out.old.items ++ printing.later_fields (evaluation.fields_of params.entry.now args.entry.now)) }
+{
+    while let [param, more_params @ ..] = params {
+        let [arg, more_args @ ..] = args else {
+            return Ok(());
+        };
+        out.push(b',')?;
+        push_field(out, param, arg)?;
+        params = more_params;
+        args = more_args;
+    }
+    Ok(())
+}
+
+/// Prints the fields of an object, with commas between.
+fn push_field_list(out: &mut Vec<u8>, params: &[Param], args: &[Expr]) -> Result<(), NoMemory>
+    ensures exact { OnOk result (out.new.items ≡ out.old.items ++ spec.field_list (evaluation.fields_of params.now args.now)) }
+{
+    let [param, more_params @ ..] = params else {
+        return Ok(());
+    };
+    let [arg, more_args @ ..] = args else {
+        return Ok(());
+    };
+    push_field(out, param, arg)?;
+    push_later_fields(out, more_params, more_args)
+}
+
+/// Prints the fields of an object, in braces.
+#[tactic(auto, unfolding(crate::specs::Report::fields_text))]
+fn push_fields(out: &mut Vec<u8>, params: &[Param], args: &[Expr]) -> Result<(), NoMemory>
+    ensures exact { OnOk result (out.new.items ≡ out.old.items ++ spec.fields_text (evaluation.fields_of params.now args.now)) }
+{
+    out.push(b'{')?;
+    push_field_list(out, params, args)?;
+    out.push(b'}')?;
+    Ok(())
+}
+
+/// Prints what a body gives, where `objects` have appeared before, and says how many have appeared then.
+fn push_value(
+    out: &mut Vec<u8>,
+    items: &[Item],
+    body: &Expr,
+    objects: usize,
+) -> Result<usize, NoMemory>
+    requires { objects < 2 ^ 64 - 1 }
+    ensures exact { IfOk result (λ count. (ask : ℕ) → printing.Prints out.old.items out.new.items objects count (evaluation.evaluate items.now ask body.now)) }
+{
+    match body {
+        Expr::Text(text) => {
+            push_quoted(out, text.as_slice())?;
+            Ok(objects)
+        }
+        Expr::New { class, args } => {
+            let number = objects + 1;
+            out.extend_from_slice(class.as_slice())?;
+            out.push(b'#')?;
+            push_decimal(out, number)?;
+            let params = params_of(class.as_slice(), items).unwrap_or(&[]);
+            push_fields(out, params, args.as_slice())?;
+            Ok(number)
+        }
+    }
+}
+
+/// Cuts what stands from `start` on, if it is too long, and sets two dots behind the cut.
+fn cut_from(out: &mut Vec<u8>, start: usize) -> Result<(), NoMemory>
+    requires { start ≤ vec_len out.old }
+    ensures exact { OnOk result (out.new.items ≡ take start out.old.items ++ spec.cut (drop start out.old.items)) }
+{
+    if out.len() - start > VALUE_LIMIT {
+        out.truncate(start + VALUE_LIMIT);
+        out.extend_from_slice(b"..")?;
+    }
+    Ok(())
+}
+
+/// Writes the reply to an ask with its number, where `objects` have appeared before, and says how many have appeared
+/// then.
+fn push_reply(
+    out: &mut Vec<u8>,
+    items: &[Item],
+    number: usize,
+    body: &Expr,
+    objects: usize,
+) -> Result<usize, NoMemory>
+    requires { objects < 2 ^ 64 - 1 }
+    ensures exact { IfOk result (λ count. printing.Replies out.old.items out.new.items number objects count (evaluation.evaluate items.now number body.now)) }
+{
+    push_decimal(out, number)?;
+    out.push(b' ')?;
+    let start = out.len();
+    let count = push_value(out, items, body, objects)?;
+    cut_from(out, start)?;
+    out.push(b'\n')?;
+    Ok(count)
+}
+
+/// What is written for a document with these items.
+pub fn report(alloc: Global, items: &[Item]) -> Result<Vec<u8>, NoMemory>
+    ensures exact { IfOk result (λ text. text.items ≡ spec.report items.now) }
+{
+    let mut out = Vec::new(alloc);
+    let mut asks = 0;
+    let mut objects = 0;
+    for item in items {
+        if let Item::AskLine { inst, entry } = item {
+            asks += 1;
+            if let Some(body) = body_of_ask(items, inst.as_slice(), entry.as_slice()) {
+                objects = push_reply(&mut out, items, asks, body, objects)?;
+            }
+        }
+    }
+    out.extend_from_slice(b"cells 0\n")?;
+    Ok(out)
+}
