@@ -171,6 +171,7 @@ fn is_new(name: &[u8], earlier: &[Item]) -> bool
     !is_predefined(name) && !declares_outer(name, earlier)
 }
 
+#[tactic(auto, using(crate::proofs::ConditionLemmas::is_among_names))]
 fn has_param(name: &[u8], params: &[Param]) -> bool
     ensures exact { result ≡ bytes.is_among name.now (map conditions.name_of_param params.now) }
 {
@@ -248,6 +249,13 @@ fn fits_params(args: &[Expr], params: Option<&[Param]>) -> bool
     }
 }
 
+/// Whether a new object of one class, with these arguments, is of the other.
+fn makes(class: &Name, args: &[Expr], name: &Name, earlier: &[Item]) -> bool
+    ensures exact { result ≡ (bytes_eq class.now name.now && conditions.fits_params args.now (lookup.params_of class.now earlier.now)) }
+{
+    class.is(name.as_slice()) && fits_params(args, params_of(class.as_slice(), earlier))
+}
+
 /// Whether a constant has a type.
 fn checks(body: &Expr, wanted: &TypeUse, earlier: &[Item]) -> bool
     ensures exact { result ≡ conditions.checks body.now wanted.now earlier.now }
@@ -255,8 +263,7 @@ fn checks(body: &Expr, wanted: &TypeUse, earlier: &[Item]) -> bool
     match (body, &wanted.shape) {
         (Expr::Text(_), Shape::Text) => true,
         (Expr::New { class, args }, Shape::Named(name)) => {
-            class.is(name.as_slice())
-                && fits_params(args.as_slice(), params_of(class.as_slice(), earlier))
+            makes(class, args.as_slice(), name, earlier)
         }
         _ => false,
     }
