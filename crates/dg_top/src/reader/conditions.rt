@@ -4,7 +4,6 @@ ghost use Rattle.std.specs.Prelude.{◌≡◌, ◌&&◌, Option, None, Some, is_
 ghost use Rattle.std.specs.Option.{option_copied, option_map};
 ghost use Rattle.std.specs.List.{list_all, list_any};
 ghost use Rattle.std.specs.Str.{bytes_eq};
-ghost use Rattle.std.specs.Prelude.{map};
 ghost use Rattle.dg_decl.specs.declared.expression.Expr.{out-Expr};
 ghost use Rattle.dg_decl.specs.Blocks as blocks;
 ghost use Rattle.dg_decl.specs.Bytes as bytes;
@@ -171,15 +170,14 @@ fn is_new(name: &[u8], earlier: &[Item]) -> bool
     !is_predefined(name) && !declares_outer(name, earlier)
 }
 
-#[tactic(auto, using(crate::proofs::ConditionLemmas::is_among_names))]
 fn has_param(name: &[u8], params: &[Param]) -> bool
-    ensures exact { result ≡ bytes.is_among name.now (map conditions.name_of_param params.now) }
+    ensures exact { result ≡ conditions.has_param name.now params.now }
 {
     params.iter().any(|param| param.name.is(name))
 }
 
 fn are_distinct(params: &[Param]) -> bool
-    ensures exact { result ≡ conditions.are_distinct (map conditions.name_of_param params.now) }
+    ensures exact { result ≡ conditions.are_distinct params.now }
 {
     let mut rest = params;
     while let [first, more @ ..] = rest {
