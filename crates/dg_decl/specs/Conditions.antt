@@ -1,5 +1,5 @@
 -- What an item asks of the items before it.
-use Rattle.std.specs.Prelude.{ℕ, Bool, true, false, not, ◌&&◌, ◌||◌, List, [], ◌∷◌, length, map, Option, Some, None, is_some, is_none, if◌then◌else◌, ◌==◌, codes, option_and_then}
+use Rattle.std.specs.Prelude.{ℕ, Bool, true, false, not, ◌&&◌, ◌||◌, List, [], ◌∷◌, length, Option, Some, None, is_some, is_none, if◌then◌else◌, ◌==◌, codes, option_and_then}
 use Rattle.std.specs.Str.{bytes_eq}
 use Rattle.std.specs.List.{filter_map, list_any, list_all, zip}
 use Rattle.dg_types.specs.declared.shape.Shape.{Shape}
@@ -88,10 +88,14 @@ is_new n earlier = not (is_among n predefined) && not (declares outer_name n ear
 abbrev pub is_new_member : Bytes → List Item → Bool
 is_new_member n earlier = is_new n earlier && not (declares member_name n (in_open_block earlier))
 
--- each text stands once
-abbrev pub are_distinct : List Bytes → Bool
+-- one of the parameters has this name
+abbrev pub has_param : Bytes → List Param → Bool
+has_param n ps = list_any (λ p. bytes_eq n p.name) ps
+
+-- each parameter has a name of its own
+abbrev pub are_distinct : List Param → Bool
 are_distinct [] = true
-are_distinct (n ∷ ns) = not (is_among n ns) && are_distinct ns
+are_distinct (p ∷ ps) = not (has_param p.name ps) && are_distinct ps
 
 -- ---- types
 
@@ -102,9 +106,6 @@ is_text_shape (shape.Named n) = false
 -- a parameter of a class is a text
 abbrev pub is_text_param : Param → Bool
 is_text_param p = is_text_shape p.shape.shape
-
-abbrev pub name_of_param : Param → Bytes
-name_of_param p = p.name
 
 -- `Text`, or a class that was declared before
 abbrev pub is_known_shape : Shape → List Item → Bool
@@ -158,7 +159,7 @@ has_entry entry (Some class) earlier = is_some (entry_of class entry earlier)
 -- is new, and its constant has its type. There is one module and one component at most, and an entry point only
 -- where exactly one `provides` line of the component's modules gives its type.
 abbrev pub is_admitted : Item → List Item → Bool
-is_admitted (Class n ps) earlier = is_new n earlier && list_all is_text_param ps && are_distinct (map name_of_param ps)
+is_admitted (Class n ps) earlier = is_new n earlier && list_all is_text_param ps && are_distinct ps
 is_admitted (Module n) earlier = is_new n earlier && not (has_some module_name earlier)
 is_admitted (Component n ms) earlier =
     is_new n earlier && not (has_some component_name earlier) && list_all (λ m. declares module_name m earlier) ms

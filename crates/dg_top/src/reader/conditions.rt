@@ -4,7 +4,6 @@ ghost use Rattle.std.specs.Prelude.{◌≡◌, ◌&&◌, Option, None, Some, is_
 ghost use Rattle.std.specs.Option.{option_copied, option_map};
 ghost use Rattle.std.specs.List.{list_all, list_any};
 ghost use Rattle.std.specs.Str.{bytes_eq};
-ghost use Rattle.std.specs.Prelude.{map};
 ghost use Rattle.dg_decl.specs.declared.expression.Expr.{out-Expr};
 ghost use Rattle.dg_decl.specs.Blocks as blocks;
 ghost use Rattle.dg_decl.specs.Bytes as bytes;
@@ -172,13 +171,13 @@ fn is_new(name: &[u8], earlier: &[Item]) -> bool
 }
 
 fn has_param(name: &[u8], params: &[Param]) -> bool
-    ensures exact { result ≡ bytes.is_among name.now (map conditions.name_of_param params.now) }
+    ensures exact { result ≡ conditions.has_param name.now params.now }
 {
     params.iter().any(|param| param.name.is(name))
 }
 
 fn are_distinct(params: &[Param]) -> bool
-    ensures exact { result ≡ conditions.are_distinct (map conditions.name_of_param params.now) }
+    ensures exact { result ≡ conditions.are_distinct params.now }
 {
     let mut rest = params;
     while let [first, more @ ..] = rest {
@@ -248,6 +247,13 @@ fn fits_params(args: &[Expr], params: Option<&[Param]>) -> bool
     }
 }
 
+/// Whether a new object of one class, with these arguments, is of the other.
+fn makes(class: &Name, args: &[Expr], name: &Name, earlier: &[Item]) -> bool
+    ensures exact { result ≡ (bytes_eq class.now name.now && conditions.fits_params args.now (lookup.params_of class.now earlier.now)) }
+{
+    class.is(name.as_slice()) && fits_params(args, params_of(class.as_slice(), earlier))
+}
+
 /// Whether a constant has a type.
 fn checks(body: &Expr, wanted: &TypeUse, earlier: &[Item]) -> bool
     ensures exact { result ≡ conditions.checks body.now wanted.now earlier.now }
@@ -255,8 +261,7 @@ fn checks(body: &Expr, wanted: &TypeUse, earlier: &[Item]) -> bool
     match (body, &wanted.shape) {
         (Expr::Text(_), Shape::Text) => true,
         (Expr::New { class, args }, Shape::Named(name)) => {
-            class.is(name.as_slice())
-                && fits_params(args.as_slice(), params_of(class.as_slice(), earlier))
+            makes(class, args.as_slice(), name, earlier)
         }
         _ => false,
     }

@@ -1,10 +1,10 @@
-use Rattle.std.proofs.Common.{◌≡◌, length, map}
+use Rattle.std.proofs.Common.{◌≡◌, length}
 use Rattle.dg_decl.specs.Conditions as conditions
 use Rattle.dg_top.proofs.reader.conditions.are_distinct.Given as goal
 
 -- the parameters that are left decide
 abbrev pub invariant-loop-rest : goal.invariant-loop-rest
-invariant-loop-rest l = conditions.are_distinct (map conditions.name_of_param l.rest) ≡ conditions.are_distinct (map conditions.name_of_param l.params)
+invariant-loop-rest l = conditions.are_distinct l.rest ≡ conditions.are_distinct l.params
 
 abbrev pub decreases-loop-rest : goal.decreases-loop-rest
 decreases-loop-rest l = length l.rest
