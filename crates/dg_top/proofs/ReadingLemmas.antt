@@ -1,16 +1,19 @@
 -- A document is read line by line.
 use Rattle.std.proofs.Common.{◌≡◌, ◌≢◌, ℕ, zero, suc, ◌+◌, ◌-◌, ◌<◌, ◌≤◌, Bool, true, false, inl, inr, List, [], ◌∷◌, ◌++◌, length, get_or, take, drop, Option, Some, None, refl, sym, ap, subst, ◌∙◌, append_assoc, arith}
-use Rattle.std.specs.Prelude.{IsSome}
+use Rattle.std.specs.Prelude.{IsSome, is_some, ◌==◌}
 use Rattle.std.specs.List.{filter_map, cons_option}
 use Rattle.std.proofs.lemmas.List.Elements.{filter_map-append}
-use Rattle.std.specs.Option.{option_to_list, option_map}
-use Rattle.std.proofs.lemmas.Bool.{cases_lt, false≢true}
-use Rattle.std.proofs.lemmas.List.{append-nil, length-take-le, length-drop, take_all}
+use Rattle.std.specs.Option.{option_to_list, option_map, option_copied}
+use Rattle.std.specs.Borrow.{Bor}
+use Rattle.std.proofs.lemmas.Bool.{cases_lt, false≢true, eqb-true, eqb-false}
+use Rattle.std.proofs.lemmas.List.{append-nil, length-take-le, length-drop, take_all, nil_from_length}
 use Rattle.dg_decl.specs.declared.document.Doc.{Doc}
 use Rattle.dg_decl.specs.declared.item.Item.{Item}
 use Rattle.dg_decl.specs.Bytes.{Bytes}
 use Rattle.dg_decl.specs.Lines.{lines_of, rest_of}
-use Rattle.dg_decl.specs.Meaning.{item_of}
+use Rattle.dg_decl.specs.declared.document.LineMeaning.TheVariants.{Bad, Nothing, Says}
+use Rattle.dg_decl.specs.Conditions.{may_follow}
+use Rattle.dg_decl.specs.Meaning.{meaning_of, item_of}
 use Rattle.dg_decl.specs.Blocks.{open_block}
 use Rattle.dg_decl.specs.Reading.{items_of, with_place, places_from, places_of, is_good, is_good_at, IsBad, bad_line, bad_rest, bad_end, FirstBad, Reads}
 use Rattle.dg_top.specs.Adding.{Adds}
@@ -170,3 +173,51 @@ is_read bytes number text doc read none behind empty closed =
       items = items_are;
       lines = read.places_are ∙ ap places_of (whole bytes number all);
     }
+
+-- ---- what one line adds
+
+pub adds_bad : (line : Bytes) (number : ℕ) (items : List Item) (places : List ℕ) → meaning_of line ≡ Bad → Adds line number items items places places false
+unfolding is_good
+adds_bad line number items places says = record { answer = rw says refl; item = λ e. absurd (false≢true e); place = λ e. absurd (false≢true e) }
+
+pub adds_nothing : (line : Bytes) (number : ℕ) (items : List Item) (places : List ℕ) → meaning_of line ≡ Nothing → Adds line number items items places places true
+unfolding is_good item_of
+adds_nothing line number items places says = record {
+  answer = rw says refl;
+  item = λ _. rw says (sym (append-nil items));
+  place = λ _. rw says (sym (append-nil places));
+}
+
+pub adds_item : (line : Bytes) (number : ℕ) (items new : List Item) (places new_places : List ℕ) (item : Item) (good : Bool)
+    → meaning_of line ≡ Says item → good ≡ may_follow item items → new ≡ items ++ item ∷ [] → new_places ≡ places ++ number ∷ [] → Adds line number items new places new_places good
+unfolding is_good item_of
+adds_item line number items new places new_places item good says follows added placed = record {
+  answer = rw says follows;
+  item = λ _. rw says added;
+  place = λ _. rw says placed;
+}
+
+pub refuses_item : (line : Bytes) (number : ℕ) (items : List Item) (places : List ℕ) (item : Item) (good : Bool)
+    → meaning_of line ≡ Says item → good ≡ may_follow item items → good ≡ false → Adds line number items items places places good
+unfolding is_good
+refuses_item line number items places item good says follows bad = record {
+  answer = rw says follows;
+  item = λ e. absurd (false≢true (sym bad ∙ e));
+  place = λ e. absurd (false≢true (sym bad ∙ e));
+}
+
+-- ---- tests at the end
+
+pub is_empty_text : (z : Bytes) (b : Bool) → b ≡ (length z == 0) → b ≡ true → z ≡ []
+is_empty_text z b is holds = nil_from_length z (eqb-true _ _ (sym is ∙ holds))
+
+pub isnt_empty_text : (z : Bytes) (b : Bool) → b ≡ (length z == 0) → b ≡ false → z ≢ []
+isnt_empty_text z b is fails nothing = eqb-false _ _ (sym is ∙ fails) (ap length nothing)
+
+pub is_open : (o : Option (Bor Item)) (header : Option Item) (b : Bool) → option_copied o ≡ header → b ≡ is_some o → b ≡ true → IsSome header
+is_open None header b copied is holds = absurd (false≢true (sym is ∙ holds))
+is_open (Some item) header b copied is holds = subst (λ (h : Option Item). IsSome h) copied refl
+
+pub is_closed : (o : Option (Bor Item)) (header : Option Item) (b : Bool) → option_copied o ≡ header → b ≡ is_some o → b ≡ false → header ≡ None
+is_closed None header b copied is fails = sym copied
+is_closed (Some item) header b copied is fails = absurd (false≢true (sym fails ∙ is))
