@@ -4,3 +4,4 @@ pub mod ReadingLemmas
 pub mod ConditionLemmas
 pub mod DraftLemmas
 pub mod PrintLemmas
+pub mod NumberLemmas

@@ -4,12 +4,15 @@ use Rattle.std.specs.Prelude.{map, codes}
 use Rattle.std.specs.List.{flat_map, join_with_byte}
 use Rattle.std.proofs.lemmas.Bool.{lt-leb}
 use Rattle.std.proofs.Math.Seq.{take-add}
-use Rattle.std.proofs.lemmas.List.{append-nil, take_rest}
+use Rattle.std.proofs.lemmas.List.{append-nil, take_rest, take_at, drop_at}
 use Rattle.dg_decl.specs.declared.expression.Expr.{Expr}
+use Rattle.dg_decl.specs.declared.expression.Expr.TheVariants as expr
+use Rattle.dg_decl.specs.declared.expression.Expr.TheVariants.{outs-New}
+use Rattle.dg_decl.specs.declared.item.Item.{Item}
 use Rattle.dg_decl.specs.declared.item.Param.{Param}
-use Rattle.dg_decl.specs.Bytes.{Bytes}
-use Rattle.dg_top.specs.Evaluation.{text_of, fields_of}
-use Rattle.dg_top.specs.Printing.{later_fields}
+use Rattle.dg_decl.specs.Bytes.{Bytes, line_end}
+use Rattle.dg_top.specs.Evaluation.{text_of, fields_of, evaluate}
+use Rattle.dg_top.specs.Printing.{later_fields, new_text, object_text, object_count}
 use Rattle.dg_top.specs.Report.{field_text, field_list, value_limit, cut}
 
 -- ---- fields
@@ -32,3 +35,18 @@ pub cut_long : (start : ℕ) (out : Bytes) → start ≤ length out → value_li
 cut_long start out within long =
     let test : leb (length (drop start out)) value_limit ≡ false = lt-leb _ _ long in
     rw (test, take-add) (append_assoc (take start out) (take value_limit (drop start out)) (codes ".."))
+
+-- ---- objects
+
+pub new_object : (items : List Item) (ask count : ℕ) (body : Expr) (class : Bytes) (args : List Expr) → body ≡ expr.New class args
+    → (new_text count (evaluate items ask body) ≡ object_text items class args (count + 1)) × (count + 1 ≡ count + object_count (evaluate items ask body))
+new_object items ask count body class args is = (rw (is, outs-New) refl, rw (is, outs-New) refl)
+
+-- ---- replies
+
+pub reply_made : (old digits text front valued limited whole : Bytes) (start : ℕ) → front ≡ (old ++ digits) ++ 32 ∷ [] → start ≡ length front → valued ≡ front ++ text
+    → limited ≡ take start valued ++ cut (drop start valued) → whole ≡ limited ++ line_end ∷ [] → whole ≡ old ++ ((digits ++ (32 ∷ cut text)) ++ line_end ∷ [])
+reply_made old digits text front valued limited whole start front_is start_is valued_is limited_is whole_is =
+    let here : take start valued ≡ front = rw valued_is (take_at front text start (sym start_is)) in
+    let behind : drop start valued ≡ text = rw valued_is (drop_at front text start (sym start_is)) in
+    whole_is ∙ rw (limited_is, here, behind, front_is) (simp append_assoc)

@@ -1,8 +1,10 @@
 -- What is printed of a value whose objects appear for the first time.
-use Rattle.std.specs.Prelude.{◌≡◌, ℕ, ◌+◌, ◌<◌, List, [], ◌∷◌, ◌++◌, length, Option, Some, None}
+use Rattle.std.specs.Prelude.{◌≡◌, ℕ, ◌+◌, ◌<◌, List, [], ◌∷◌, ◌++◌, length, Option, Some, None, unwrap_or}
+use Rattle.dg_decl.specs.declared.expression.Expr.{Expr}
 use Rattle.dg_decl.specs.declared.item.Item.{Item}
+use Rattle.dg_decl.specs.Lookup.{params_of}
 use Rattle.dg_decl.specs.Bytes.{Bytes}
-use Rattle.dg_top.specs.Evaluation.{Place, Value, Words, Object, value_of_ask}
+use Rattle.dg_top.specs.Evaluation.{Value, Words, Object, fields_of}
 use Rattle.dg_top.specs.Report.{quoted, field_text, fields_text, numbered, reply_line}
 
 -- the fields behind the first, each with a comma before it
@@ -14,6 +16,10 @@ later_fields (f ∷ fs) = 44 ∷ field_text f ++ later_fields fs
 abbrev pub new_text : ℕ → Value → Bytes
 new_text count (Words z) = quoted z
 new_text count (Object class identity fields) = numbered class (count + 1) ++ fields_text fields
+
+-- the text of a new object of this class, with this number
+abbrev pub object_text : List Item → Bytes → List Expr → ℕ → Bytes
+object_text items class args number = numbered class number ++ fields_text (fields_of (unwrap_or (params_of class items) []) args)
 
 -- how many objects a value has
 abbrev pub object_count : Value → ℕ

@@ -15,6 +15,9 @@ use std::alloc::Global;
 /// The most bytes that are printed of a value.
 const VALUE_LIMIT: usize = 65536;
 
+/// How many cells are filled: no form that is read declares a binding with a scope or a producer.
+const CELLS: usize = 0;
+
 /// The body that answers an ask of this entry point of this instance.
 #[tactic(auto, unfolding(crate::specs::Evaluation::body_of_ask))]
 fn body_of_ask<'a>(items: &'a [Item], inst: &[u8], entry: &[u8]) -> Option<&'a Expr>
@@ -119,6 +122,26 @@ fn push_fields(out: &mut Vec<u8>, params: &[Param], args: &[Expr]) -> Result<(),
     Ok(())
 }
 
+/// Prints `C#n` and the fields of an object that appears for the first time.
+fn push_object(
+    out: &mut Vec<u8>,
+    items: &[Item],
+    class: &[u8],
+    args: &[Expr],
+    number: usize,
+) -> Result<(), NoMemory>
+    ensures exact { OnOk result (out.new.items ≡ out.old.items ++ printing.object_text items.now class.now args.now number) }
+{
+    out.extend_from_slice(class)?;
+    out.push(b'#')?;
+    push_decimal(out, number)?;
+    match params_of(class, items) {
+        Some(params) => push_fields(out, params, args)?,
+        None => push_fields(out, &[], args)?,
+    }
+    Ok(())
+}
+
 /// Prints what a body gives, where `objects` have appeared before, and says how many have appeared then.
 fn push_value(
     out: &mut Vec<u8>,
@@ -136,11 +159,7 @@ fn push_value(
         }
         Expr::New { class, args } => {
             let number = objects + 1;
-            out.extend_from_slice(class.as_slice())?;
-            out.push(b'#')?;
-            push_decimal(out, number)?;
-            let params = params_of(class.as_slice(), items).unwrap_or(&[]);
-            push_fields(out, params, args.as_slice())?;
+            push_object(out, items, class.as_slice(), args.as_slice(), number)?;
             Ok(number)
         }
     }
@@ -194,6 +213,8 @@ pub fn report(alloc: Global, items: &[Item]) -> Result<Vec<u8>, NoMemory>
             }
         }
     }
-    out.extend_from_slice(b"cells 0\n")?;
+    out.extend_from_slice(b"cells ")?;
+    push_decimal(&mut out, CELLS)?;
+    out.push(b'\n')?;
     Ok(out)
 }
