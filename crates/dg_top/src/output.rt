@@ -1,0 +1,22 @@
+//! Writes a text to a sink.
+
+ghost use Rattle.std.specs.Prelude.{◌≡◌, ◌≤◌, ◌<◌, ℕ, length, take, OnOk, OnErr};
+ghost use Rattle.std.specs.Io.KnownBytes.{Appends};
+ghost use Rattle.dg_io.specs.Causes.{Rose};
+
+use dg_io::{Failed, Sink};
+
+/// Writes all of a text. Where the sink fails, it has a front of the text.
+pub fn write_all<K: Sink>(sink: &mut K, text: &[u8]) -> Result<(), Failed>
+    ensures exact { OnOk result (Appends (K.written sink.old) (K.written sink.new) text.now) }
+    ensures kept { OnOk result (K.faults sink.new ≡ K.faults sink.old) }
+    ensures cause { OnErr result (Rose (K.faults sink.old) (K.faults sink.new)) }
+    ensures front { OnErr result ((n : ℕ) × (n < length text.now) × Appends (K.written sink.old) (K.written sink.new) (take n text.now)) }
+    ensures faults { K.faults sink.old ≤ K.faults sink.new }
+{
+    let mut start = 0;
+    while start < text.len() {
+        start += sink.write(&text[start..])?;
+    }
+    Ok(())
+}
