@@ -121,25 +121,19 @@ fn declares_member(name: &[u8], items: &[Item]) -> bool
 fn declares_module(name: &[u8], items: &[Item]) -> bool
     ensures exact { result ≡ conditions.declares conditions.module_name name.now items.now }
 {
-    items
-        .iter()
-        .any(|item| matches!(item, Item::Module { name: n } if n.is(name)))
+    items.iter().any(|item| matches!(item, Item::Module { name: n } if n.is(name)))
 }
 
 fn declares_component(name: &[u8], items: &[Item]) -> bool
     ensures exact { result ≡ conditions.declares conditions.component_name name.now items.now }
 {
-    items
-        .iter()
-        .any(|item| matches!(item, Item::Component { name: n, .. } if n.is(name)))
+    items.iter().any(|item| matches!(item, Item::Component { name: n, .. } if n.is(name)))
 }
 
 fn declares_instance(name: &[u8], items: &[Item]) -> bool
     ensures exact { result ≡ conditions.declares conditions.instance_name name.now items.now }
 {
-    items
-        .iter()
-        .any(|item| matches!(item, Item::OpenLine { name: n, .. } if n.is(name)))
+    items.iter().any(|item| matches!(item, Item::OpenLine { name: n, .. } if n.is(name)))
 }
 
 fn has_module(items: &[Item]) -> bool
