@@ -1,8 +1,8 @@
 //! What the items of a document declare, looked up by name and by type.
 
-ghost use Rattle.std.specs.Prelude.{◌≡◌, length, IsTrue, Option, None, Some};
-ghost use Rattle.dg_decl.specs.declared.item.Item.{Item};
+ghost use Rattle.std.specs.Prelude.{◌≡◌, length, Option};
 ghost use Rattle.std.specs.Option.{option_copied, option_map};
+ghost use Rattle.dg_decl.specs.declared.item.Item.{Item};
 ghost use Rattle.dg_decl.specs.Blocks as blocks;
 ghost use Rattle.dg_decl.specs.Bytes as bytes;
 ghost use Rattle.dg_decl.specs.Lookup as lookup;

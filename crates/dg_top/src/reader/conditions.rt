@@ -1,6 +1,6 @@
 //! What an item asks of the items before it.
 
-ghost use Rattle.std.specs.Prelude.{◌≡◌, ◌&&◌, Option, None, Some, is_some};
+ghost use Rattle.std.specs.Prelude.{◌≡◌, ◌&&◌, is_some};
 ghost use Rattle.std.specs.Option.{option_copied, option_map};
 ghost use Rattle.std.specs.List.{list_all, list_any};
 ghost use Rattle.std.specs.Str.{bytes_eq};
@@ -10,7 +10,7 @@ ghost use Rattle.dg_decl.specs.Bytes as bytes;
 ghost use Rattle.dg_decl.specs.Conditions as conditions;
 ghost use Rattle.dg_decl.specs.Lookup as lookup;
 
-use crate::lookup::{class_of, count_bindings, entry_of, is_among, params_of};
+use crate::lookup::{class_of, count_bindings, entry_of, params_of};
 use dg_decl::{Expr, Item, Param};
 use dg_types::{Name, Shape, TypeUse};
 
@@ -121,31 +121,7 @@ fn declares_member(name: &[u8], items: &[Item]) -> bool
 fn declares_module(name: &[u8], items: &[Item]) -> bool
     ensures exact { result ≡ conditions.declares conditions.module_name name.now items.now }
 {
-    items
-        .iter()
-        .any(|item| matches!(item, Item::Module { name: n } if n.is(name)))
-}
-
-fn declares_component(name: &[u8], items: &[Item]) -> bool
-    ensures exact { result ≡ conditions.declares conditions.component_name name.now items.now }
-{
-    items
-        .iter()
-        .any(|item| matches!(item, Item::Component { name: n, .. } if n.is(name)))
-}
-
-fn declares_instance(name: &[u8], items: &[Item]) -> bool
-    ensures exact { result ≡ conditions.declares conditions.instance_name name.now items.now }
-{
-    items
-        .iter()
-        .any(|item| matches!(item, Item::OpenLine { name: n, .. } if n.is(name)))
-}
-
-fn has_module(items: &[Item]) -> bool
-    ensures exact { result ≡ conditions.has_some conditions.module_name items.now }
-{
-    items.iter().any(|item| matches!(item, Item::Module { .. }))
+    items.iter().any(|item| matches!(item, Item::Module { name: n } if n.is(name)))
 }
 
 fn declare_modules(names: &[Name], items: &[Item]) -> bool
@@ -154,6 +130,24 @@ fn declare_modules(names: &[Name], items: &[Item]) -> bool
     names
         .iter()
         .all(|name| declares_module(name.as_slice(), items))
+}
+
+fn declares_component(name: &[u8], items: &[Item]) -> bool
+    ensures exact { result ≡ conditions.declares conditions.component_name name.now items.now }
+{
+    items.iter().any(|item| matches!(item, Item::Component { name: n, .. } if n.is(name)))
+}
+
+fn declares_instance(name: &[u8], items: &[Item]) -> bool
+    ensures exact { result ≡ conditions.declares conditions.instance_name name.now items.now }
+{
+    items.iter().any(|item| matches!(item, Item::OpenLine { name: n, .. } if n.is(name)))
+}
+
+fn has_module(items: &[Item]) -> bool
+    ensures exact { result ≡ conditions.has_some conditions.module_name items.now }
+{
+    items.iter().any(|item| matches!(item, Item::Module { .. }))
 }
 
 fn has_component(items: &[Item]) -> bool

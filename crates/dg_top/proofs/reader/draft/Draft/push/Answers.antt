@@ -1,4 +1,4 @@
-use Rattle.std.proofs.Common.{◌≡◌, ◌∙◌, sym, suc, length, arith}
+use Rattle.std.proofs.Common.{◌≡◌, sym, suc, length, arith}
 use Rattle.std.proofs.lemmas.Grind.{common_steps}
 use Rattle.dg_top.proofs.DraftLemmas.{begins_behind, begins_before}
 use Rattle.dg_top.proofs.reader.draft.Draft.push.Goals as goal
