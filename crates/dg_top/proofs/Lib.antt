@@ -5,3 +5,4 @@ pub mod ConditionLemmas
 pub mod DraftLemmas
 pub mod PrintLemmas
 pub mod NumberLemmas
+pub mod StreamLemmas
