@@ -6,3 +6,4 @@ pub mod DraftLemmas
 pub mod PrintLemmas
 pub mod NumberLemmas
 pub mod StreamLemmas
+pub mod OutputLemmas

@@ -6,6 +6,8 @@ mod lookup;
 mod output;
 mod reader;
 mod report;
+mod run;
 mod status;
 
+pub use run::{one_output, run_top};
 pub use status::Status;

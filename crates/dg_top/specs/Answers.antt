@@ -1,0 +1,13 @@
+-- The answer to what a source gave.
+use Rattle.std.specs.Prelude.{◌≡◌, ◌≤◌, ◌+◌, ℕ, List, [], length, Option}
+use Rattle.std.specs.Io.KnownBytes.{Consumes, IsAtEnd}
+use Rattle.dg_top.specs.declared.status.Status.{Status}
+use Rattle.dg_top.specs.declared.status.Status.TheVariants.{TooLong}
+use Rattle.dg_decl.specs.Bytes.{Bytes}
+use Rattle.dg_top.specs.Output.{document_limit, too_long_text, IsOutput}
+use Rattle.dg_top.specs.Runs.{TakesExactly}
+
+-- all bytes were taken and this is their output without words, or the byte past the limit was taken
+pub data Answers (left new_left : Option Bytes) : Status → Bytes → Type 0 where
+  to_all : {status : Status} {text : Bytes} → (bytes : Bytes) → Consumes left new_left bytes → IsAtEnd new_left → length bytes ≤ document_limit → IsOutput [] bytes status text → Answers left new_left status text
+  to_long : TakesExactly (document_limit + 1) left new_left → Answers left new_left TooLong too_long_text
