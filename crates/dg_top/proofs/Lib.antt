@@ -7,3 +7,4 @@ pub mod PrintLemmas
 pub mod NumberLemmas
 pub mod StreamLemmas
 pub mod OutputLemmas
+pub mod RunLemmas

@@ -1,4 +1,4 @@
-use Rattle.dg_top.proofs.OutputLemmas.{outputs_once, some_text}
+use Rattle.dg_top.proofs.OutputLemmas.{outputs_once}
 use Rattle.dg_top.proofs.run.one_output.Goals as goal
 
 pub returns : goal.returns

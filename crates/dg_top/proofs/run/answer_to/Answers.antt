@@ -1,0 +1,14 @@
+use Rattle.std.proofs.lemmas.Result.{IfOk-weaker}
+use Rattle.dg_top.specs.Output.{IsOutput}
+use Rattle.dg_top.proofs.RunLemmas.{answer_ran, answer_bad}
+use Rattle.dg_top.proofs.run.answer_to.Goals as goal
+
+pub returns-in_ok-report-in-Ok : goal.returns-in_ok-report-in-Ok
+returns-in_ok-report-in-Ok c =
+    record { exact = answer_ran c.args.bytes.now c.in-Ok.doc c.as_slice.result.now c.in_ok-report-in-Ok.field-0.items c.requires c.in-Ok.ensures.exact c.as_slice.ensures c.in_ok-report-in-Ok.ensures.exact }
+
+pub returns-in-Err-BadLine : goal.returns-in-Err-BadLine
+returns-in-Err-BadLine c =
+    record {
+      exact = IfOk-weaker c.bad_line.result _ _ (λ a h. answer_bad c.args.bytes.now c.in-Err-BadLine.line a.status a.text.items c.requires (rw c.in-Err-BadLine.field-0-is at c.in-Err-BadLine.ensures.cause) h.0 h.1) c.bad_line.ensures.exact;
+    }
