@@ -11,3 +11,6 @@ pub use document::{Doc, LineMeaning};
 pub use expression::Expr;
 pub use item::{Item, Param};
 pub use reading::one_reading;
+
+#[cfg(test)]
+mod tests;

@@ -11,3 +11,6 @@ mod status;
 
 pub use run::{one_output, run_top};
 pub use status::Status;
+
+#[cfg(test)]
+mod tests;

@@ -128,5 +128,4 @@ pub fn run_top<S: Source, K: Sink, G: Gate + Send>(
 /// Each words and bytes have exactly one status and text. So 'writes the output' means one thing.
 pub fn one_output()
     ensures exact { OneOutput }
-{
-}
+{}

@@ -10,3 +10,6 @@ pub use memory::NoMemory;
 pub use name::Name;
 pub use shape::{Shape, TypeUse};
 pub use text::Text;
+
+#[cfg(test)]
+mod tests;

@@ -12,12 +12,12 @@ pub returns-in_ok-push-in-Says-2 : goal.returns-in_ok-push-in-Says-2
 returns-in_ok-push-in-Says-2 c =
     record {
       exact = adds_item c.args.line.now c.args.number c.args.draft.now c.push.new.self c.args.places.now.items c.push-then-good.new.self.items c.in-Says.item c.may_follow-good.result
-      (sym c.in_ok-meaning_of.ensures.exact ∙ c.in-Says.is) c.may_follow-good.ensures.exact c.in_ok-push-in-Says.ensures.exact c.in_ok-push-in-Says-2.ensures.items;
+          (sym c.in_ok-meaning_of.ensures.exact ∙ c.in-Says.is) c.may_follow-good.ensures.exact c.in_ok-push-in-Says.ensures.exact c.in_ok-push-in-Says-2.ensures.items;
     }
 
 pub returns-else-good : goal.returns-else-good
 returns-else-good c =
     record {
       exact = refuses_item c.args.line.now c.args.number c.args.draft.now c.args.places.now.items c.in-Says.item c.may_follow-good.result
-      (sym c.in_ok-meaning_of.ensures.exact ∙ c.in-Says.is) c.may_follow-good.ensures.exact c.if-good.false;
+          (sym c.in_ok-meaning_of.ensures.exact ∙ c.in-Says.is) c.may_follow-good.ensures.exact c.if-good.false;
     }

@@ -1,0 +1,192 @@
+use crate::{Status, one_output, run_top};
+use dg_io::{MemSink, MemSource, QuietGate};
+use std::alloc::{AllocError, Global};
+use std::test::Fail;
+
+/// The shortest document with an ask.
+const FIRST: &[u8] = b"\
+class Db(url: Text)
+module M {
+  provides db() : Db = new Db(\"u\")
+}
+component App modules M {
+  entry db : Db
+}
+open a : App
+ask a.db
+";
+
+/// How the outside of a run behaves.
+#[derive(Clone, Copy)]
+struct Outside<'a> {
+    /// The most bytes that a read gives.
+    piece: usize,
+    bad_reads: &'a [u64],
+    bad_writes: &'a [u64],
+}
+
+/// Reads and writes that never fail.
+const fn calm(piece: usize) -> Outside<'static> {
+    Outside {
+        piece,
+        bad_reads: &[],
+        bad_writes: &[],
+    }
+}
+
+/// Runs a document, and gives the status and the sink.
+fn run(
+    alloc: Global,
+    words: &[String],
+    text: &[u8],
+    outside: Outside<'_>,
+) -> Result<(Status, MemSink), Fail> {
+    let text = text.to_vec(alloc)?;
+    let mut source = MemSource::new(text, outside.piece.max(1), outside.bad_reads.to_vec(alloc)?);
+    let mut sink = MemSink::with_room(alloc, 4096, outside.bad_writes.to_vec(alloc)?)?;
+    let mut gates = [QuietGate; 64].to_vec(alloc)?;
+    let status = run_top(alloc, words, &mut source, &mut sink, &mut gates);
+    Ok((status, sink))
+}
+
+/// As many lines of 4,096 bytes, their LF included, each a comment.
+fn comments(alloc: Global, lines: usize) -> Result<Vec<u8>, AllocError> {
+    let mut text = Vec::with_capacity(alloc, lines * 4096 + 1)?;
+    for _ in 0..lines {
+        text.extend_from_slice(b"//")?;
+        text.extend_from_slice(&[b'x'; 4093])?;
+        text.push(b'\n')?;
+    }
+    Ok(text)
+}
+
+#[test]
+fn an_ask_is_answered_however_the_bytes_come(rt: HostRuntime) -> Result<(), Fail> {
+    for piece in [1, 7, 4096] {
+        let (status, sink) = run(rt.alloc(), &[], FIRST, calm(piece))?;
+        assert_eq!(rt; status, Status::Ran, "in pieces of {piece}");
+        assert_eq!(rt; sink.bytes(), b"1 Db#1{url=\"u\"}\ncells 0\n".as_slice());
+    }
+    Ok(())
+}
+
+#[test]
+fn an_empty_document_has_no_cells(rt: HostRuntime) -> Result<(), Fail> {
+    for piece in [1, 7, 4096] {
+        let (status, sink) = run(rt.alloc(), &[], b"", calm(piece))?;
+        assert_eq!(rt; status, Status::Ran, "in pieces of {piece}");
+        assert_eq!(rt; sink.bytes(), b"cells 0\n".as_slice());
+    }
+    Ok(())
+}
+
+#[test]
+fn each_ask_makes_its_own_object(rt: HostRuntime) -> Result<(), Fail> {
+    let mut text = FIRST.to_vec(rt.alloc())?;
+    text.extend_from_slice(b"ask a.db\n")?;
+    let (status, sink) = run(rt.alloc(), &[], text.as_slice(), calm(4096))?;
+    assert_eq!(rt; status, Status::Ran);
+    assert_eq!(rt;
+        sink.bytes(),
+        b"1 Db#1{url=\"u\"}\n2 Db#2{url=\"u\"}\ncells 0\n".as_slice()
+    );
+    Ok(())
+}
+
+#[test]
+fn the_longest_document_is_read(rt: HostRuntime) -> Result<(), Fail> {
+    let mut text = comments(rt.alloc(), 1024)?;
+    assert_eq!(rt; text.len(), 4194304);
+    let (status, sink) = run(rt.alloc(), &[], text.as_slice(), calm(4096))?;
+    assert_eq!(rt; status, Status::Ran);
+    assert_eq!(rt; sink.bytes(), b"cells 0\n".as_slice());
+
+    text.push(b'\n')?;
+    let (status, sink) = run(rt.alloc(), &[], text.as_slice(), calm(4096))?;
+    assert_eq!(rt; status, Status::TooLong);
+    assert_eq!(rt; sink.bytes(), b"too long\n".as_slice());
+    Ok(())
+}
+
+#[test]
+fn a_last_line_without_its_end_is_bad(rt: HostRuntime) -> Result<(), Fail> {
+    let (status, sink) = run(rt.alloc(), &[], &FIRST[..FIRST.len() - 1], calm(4096))?;
+    assert_eq!(rt; status, Status::BadLine);
+    assert_eq!(rt; sink.bytes(), b"bad line 9\n".as_slice());
+    Ok(())
+}
+
+#[test]
+fn a_failed_read_writes_nothing(rt: HostRuntime) -> Result<(), Fail> {
+    let outside = Outside {
+        piece: 16,
+        bad_reads: &[2],
+        bad_writes: &[],
+    };
+    let (status, sink) = run(rt.alloc(), &[], FIRST, outside)?;
+    assert_eq!(rt; status, Status::ReadFault);
+    assert_eq!(rt; sink.bytes(), b"".as_slice());
+    Ok(())
+}
+
+#[test]
+fn a_failed_write_is_a_fault(rt: HostRuntime) -> Result<(), Fail> {
+    let outside = Outside {
+        piece: 4096,
+        bad_reads: &[],
+        bad_writes: &[1],
+    };
+    let (status, sink) = run(rt.alloc(), &[], FIRST, outside)?;
+    assert_eq!(rt; status, Status::WriteFault);
+    assert_eq!(rt; sink.bytes(), b"".as_slice());
+    Ok(())
+}
+
+#[test]
+fn there_are_no_words(rt: HostRuntime) -> Result<(), Fail> {
+    let words = [String::from_str(rt.alloc(), "workers")?];
+    let (status, sink) = run(rt.alloc(), &words, FIRST, calm(4096))?;
+    assert_eq!(rt; status, Status::BadWords);
+    assert_eq!(rt; sink.bytes(), b"".as_slice());
+    Ok(())
+}
+
+#[test]
+fn bad_lines_are_named_by_their_number(rt: HostRuntime) -> Result<(), Fail> {
+    let header = b"component App {\n".as_slice();
+    let cases = [
+        (b"}\n".as_slice(), b"bad line 1\n".as_slice()),
+        (b"\n\nclass A(a: Int)\n", b"bad line 3\n"),
+        (b"class A()\nclass A()\n", b"bad line 2\n"),
+        (header, b"bad line 2\n"),
+        (b"ask a.db\n", b"bad line 1\n"),
+    ];
+    for (text, reply) in cases {
+        let (status, sink) = run(rt.alloc(), &[], text, calm(4096))?;
+        assert_eq!(rt; status, Status::BadLine);
+        assert_eq!(rt; sink.bytes(), reply);
+    }
+    Ok(())
+}
+
+#[test]
+fn each_status_has_its_code(rt: HostRuntime) {
+    let all = [
+        Status::Ran,
+        Status::Refused,
+        Status::BadWords,
+        Status::BadLine,
+        Status::ReadFault,
+        Status::WriteFault,
+        Status::NoMemory,
+        Status::TooLong,
+    ];
+    for (code, status) in (0..).zip(all) {
+        assert_eq!(rt; status.code(), code);
+    }
+}
+
+#[test]
+fn one_output_is_a_call(_rt: HostRuntime) {
+    one_output();
+}
