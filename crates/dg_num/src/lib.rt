@@ -1,2 +1,10 @@
-//! Walks, cycles and ranks of a graph whose nodes are numbers.
+//! Graphs over numbered nodes: which nodes walks reach, which lie on cycles, and how long the longest walks are.
 #![tactic(auto)]
+
+mod graph;
+mod memory;
+mod reached;
+
+pub use graph::Graph;
+pub use memory::NoMemory;
+pub use reached::reach;
