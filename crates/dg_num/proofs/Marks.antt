@@ -1,6 +1,6 @@
 use Rattle.std.proofs.Common.{◌≡◌, ◌+◌, ◌<◌, ◌≤◌, ◌↔◌, ◌++◌, ◌∷◌, [], ℕ, Bool, true, false, not, cond, List, length, get_or, set, take, All, Contains, count_by, refl, sym, ap, ◌∙◌, subst, ⊎_elim, arith}
 use Rattle.std.proofs.lemmas.Bool.{cases_eq, cases_lt, false≢true}
-use Rattle.std.proofs.lemmas.List.{append-nil, get_or_past, append_assoc, length-set, length_push, get_or-set_same, get_or-set_other}
+use Rattle.std.proofs.lemmas.List.{append-nil, get_or_append_left, get_or_push, get_or_past, append_assoc, length-set, length_push, get_or-set_same, get_or-set_other}
 use Rattle.std.proofs.lemmas.List.Elements.{All-more, All-push, All-weaker, Contains-append_left, Contains-get_or, Contains-push, Contains-push_cases}
 use Rattle.std.proofs.lemmas.List.Sums.{sum_by-set}
 use Rattle.dg_num.specs.Walks.{IsMarked}
@@ -81,3 +81,19 @@ Marking-skip marks₀ queue₀ row marks queue i m lt was = record {
   all = All-more (IsMarked marks) row i 0 lt m.all was;
   count = m.count;
 }
+
+-- one more mark that tells whether the next node has the property
+pub marks_exact-push : (P : ℕ → Type 0) (marks marks' : List Bool) (i : ℕ) (mark : Bool) → length marks ≡ i → marks' ≡ marks ++ mark ∷ [] → ((node : ℕ) → node < i → IsMarked marks node ↔ P node) → ((mark ≡ true) ↔ P i) → (node : ℕ) → node < i + 1 → IsMarked marks' node ↔ P node
+marks_exact-push P marks marks' i mark len is exact here node lt =
+    let Q : ℕ → Type 0 = λ x. IsMarked marks' x ↔ P x in
+    ⊎_elim
+    (λ (before : node < i).
+    let same : get_or marks' node false ≡ get_or marks node false = ap (λ xs. get_or xs node false) is ∙ get_or_append_left marks (mark ∷ []) false node (omega arith) in
+    let old = exact node before in
+    (λ yes. old.0 (sym same ∙ yes), λ p. same ∙ old.1 p))
+    (λ (at : i ≤ node).
+    let e : i ≡ node = omega arith in
+    let last : get_or marks' i false ≡ mark = ap (λ xs. get_or xs i false) is ∙ get_or_push marks mark false i len in
+    let made : Q i = (λ yes. here.0 (sym last ∙ yes), λ p. last ∙ here.1 p) in
+    subst Q e made)
+    (cases_lt node i)

@@ -1,10 +1,15 @@
 //! Graphs over numbered nodes: which nodes walks reach, which lie on cycles, and how long the longest walks are.
 #![tactic(auto)]
 
+mod cycles;
 mod graph;
 mod memory;
+mod peeling;
+mod ranking;
 mod reached;
 
+pub use cycles::on_cycle;
 pub use graph::Graph;
 pub use memory::NoMemory;
+pub use ranking::{RankFault, ranks};
 pub use reached::reach;

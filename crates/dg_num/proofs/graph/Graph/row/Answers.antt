@@ -1,10 +1,10 @@
 use Rattle.std.proofs.Common.{sym, ap, ◌∙◌, ◌<◌, [], length, arith}
 use Rattle.std.proofs.lemmas.List.{get_or-map}
-use Rattle.dg_num.specs.Graph.{successors}
+use Rattle.dg_num.specs.Graph.{row_at}
 use Rattle.dg_num.proofs.graph.Graph.row.Goals as goal
 
 pub returns : goal.returns
-unfolding successors
+unfolding row_at
 returns c =
     let rows = c.args.self.now.next.items in
     let lt : c.args.node < length rows = omega arith in
