@@ -1,12 +1,12 @@
-use Rattle.std.proofs.Common.{◌≡◌, ◌==◌, ◌+◌, ◌<◌, ◌≤◌, ◌++◌, ◌∷◌, [], ℕ, zero, suc, Bool, true, false, cond, eqb, List, length, get_or, set, take, Contains, count_by, refl, ap, ◌∙◌, subst, ⊎_elim, arith}
-use Rattle.std.proofs.lemmas.Bool.{cases_eq, cases_Bool, cond-true, cond-false, eq-eqb, ne_eqb, eqb-true}
-use Rattle.std.proofs.lemmas.List.{get_or-set_same, get_or-set_other}
+use Rattle.std.proofs.Common.{◌≡◌, ◌==◌, ◌+◌, ◌<◌, ◌≤◌, ◌++◌, ◌∷◌, [], ℕ, zero, suc, Bool, true, false, cond, eqb, List, length, get_or, set, take, Contains, count_by, refl, sym, ap, ◌∙◌, subst, ⊎_elim, arith}
+use Rattle.std.proofs.lemmas.Bool.{cases_eq, cases_lt, cases_Bool, cond-true, cond-false, eq-eqb, ne_eqb, eqb-true}
+use Rattle.std.proofs.lemmas.List.{get_or-set_same, get_or-set_other, get_or-take, get_or_default, length-take, length-take-le}
 use Rattle.std.proofs.lemmas.List.Elements.{Contains-append_right}
 use Rattle.std.proofs.lemmas.List.Sums.{sum_by_push, sum_by_more, sum_by-cons, sum_by-set, sum_by-take-le, get_or-le-sum_by}
 use Rattle.dg_num.specs.Counts.{count_of, one_at_zero}
 
 -- 1 where a test holds
-abbrev one_if : Bool → ℕ
+abbrev pub one_if : Bool → ℕ
 one_if b = cond b 1 0
 
 at_same : (x y : ℕ) → x ≡ y → one_if (eqb x y) ≡ 1
@@ -107,3 +107,35 @@ fails_from_none p xs none x has =
 -- one number other than 0 more in a list is a 0 less
 pub count_by-zero-list : (xs : List ℕ) (i x : ℕ) → i < length xs → get_or xs i 0 ≡ 0 → 1 ≤ x → count_by (λ y. y == 0) (set xs i x) + 1 ≡ count_by (λ y. y == 0) xs
 count_by-zero-list xs i x lt was pos = omega (arith, sum_by-set (λ y. one_if (eqb y 0)) xs i x 0 lt, at_same (get_or xs i 0) 0 was, at_other x 0 (λ e. absurd (omega arith)))
+
+-- a number that stands in a row once stands in one place
+pub one_place : (xs : List ℕ) (x i j : ℕ) → count_of xs x ≡ 1 → i < length xs → j < length xs → get_or xs i 0 ≡ x → get_or xs j 0 ≡ x → i ≡ j
+one_place xs x i j one li lj ei ej =
+    ⊎_elim
+    (λ (lt : i < j). absurd (two xs x i j one li lj ei ej lt))
+    (λ (le : j ≤ i). ⊎_elim (λ (lt : j < i). absurd (two xs x j i one lj li ej ei lt)) (λ (ge : i ≤ j). omega arith) (cases_lt j i))
+    (cases_lt i j)
+  where
+    two : (xs : List ℕ) (x i j : ℕ) → count_of xs x ≡ 1 → i < length xs → j < length xs → get_or xs i 0 ≡ x → get_or xs j 0 ≡ x → i < j → ⊥
+    two xs x i j one li lj ei ej lt =
+        let before : get_or (take j xs) i x ≡ x = get_or-take j xs i x lt ∙ get_or_default xs i x 0 li ∙ ei in
+        let has : Contains (take j xs) x = (i, omega (arith, length-take-le j xs (omega (arith, lj))), before) in
+        omega (arith, one, count_of_contained (take j xs) x has, count_of_more_same xs j x lj ej, count_of-take-le xs (j + 1) x)
+
+-- what stands in the front of a row stands in the row, at a place in the front
+pub place_in_front : (xs : List ℕ) (n x : ℕ) → Contains (take n xs) x → (k : ℕ) × (k < n) × (k < length xs) × (get_or xs k 0 ≡ x)
+place_in_front xs n x has =
+    let k = has.0 in
+    let bounds = length-take n xs in
+    let in_front : k < n = omega (arith, has.1, bounds) in
+    let within : k < length xs = omega (arith, has.1, bounds) in
+    (k, in_front, within, get_or_default xs k 0 x within ∙ sym (get_or-take n xs k x in_front) ∙ has.2)
+
+pub contained_in_front : (xs : List ℕ) (n k x : ℕ) → k < n → k < length xs → get_or xs k 0 ≡ x → Contains (take n xs) x
+contained_in_front xs n k x lt within is = (k, omega (arith, length-take n xs), get_or-take n xs k x lt ∙ get_or_default xs k x 0 within ∙ is)
+
+pub place_of : (xs : List ℕ) (x : ℕ) → Contains xs x → (k : ℕ) × (k < length xs) × (get_or xs k 0 ≡ x)
+place_of xs x has = (has.0, has.1, get_or_default xs has.0 0 x has.1 ∙ has.2)
+
+pub contained_at : (xs : List ℕ) (k x : ℕ) → k < length xs → get_or xs k 0 ≡ x → Contains xs x
+contained_at xs k x lt is = (k, lt, get_or_default xs k x 0 lt ∙ is)

@@ -1,6 +1,6 @@
-use Rattle.std.proofs.Common.{◌≡◌, ◌+◌, ◌<◌, ◌≤◌, ◌↔◌, ◌++◌, ◌∷◌, [], ℕ, Bool, true, false, not, cond, List, length, get_or, set, take, All, Contains, count_by, refl, sym, ap, ◌∙◌, subst, ⊎_elim, arith}
+use Rattle.std.proofs.Common.{◌≡◌, ◌+◌, ◌<◌, ◌≤◌, ◌↔◌, ◌++◌, ◌∷◌, [], ℕ, Bool, true, false, not, cond, List, length, get_or, set, replicate, take, All, Contains, count_by, refl, sym, ap, ◌∙◌, subst, ⊎_elim, arith}
 use Rattle.std.proofs.lemmas.Bool.{cases_eq, cases_lt, false≢true}
-use Rattle.std.proofs.lemmas.List.{append-nil, get_or_append_left, get_or_push, get_or_past, append_assoc, length-set, length_push, get_or-set_same, get_or-set_other}
+use Rattle.std.proofs.lemmas.List.{append-nil, get_or-replicate, length-replicate, get_or_append_left, get_or_push, get_or_past, append_assoc, length-set, length_push, get_or-set_same, get_or-set_other}
 use Rattle.std.proofs.lemmas.List.Elements.{All-more, All-push, All-weaker, Contains-append_left, Contains-get_or, Contains-push, Contains-push_cases}
 use Rattle.std.proofs.lemmas.List.Sums.{sum_by-set}
 use Rattle.dg_num.specs.Walks.{IsMarked}
@@ -43,7 +43,8 @@ count_by-mark marks node lt was =
 pub record Marking (marks₀ : List Bool) (queue₀ row : List ℕ) (marks : List Bool) (queue : List ℕ) (i : ℕ) : Type 0 where
   pub len : length marks ≡ length marks₀
   pub marked : (v : ℕ) → IsMarked marks v ↔ Contains queue v
-  pub added : (added : List ℕ) × (queue ≡ queue₀ ++ added) × All (Contains row) added
+  pub kept : (v : ℕ) → IsMarked marks₀ v → IsMarked marks v
+  pub added : (added : List ℕ) × (queue ≡ queue₀ ++ added) × All (Contains row) added × All (λ v. IsMarked marks₀ v → ⊥) added
   pub all : All (IsMarked marks) (take i row)
   pub count : count_by not marks + length queue ≡ count_by not marks₀ + length queue₀
 
@@ -51,7 +52,8 @@ pub Marking-none : (marks : List Bool) (queue row : List ℕ) → ((v : ℕ) →
 Marking-none marks queue row same = record {
   len = refl;
   marked = same;
-  added = ([], sym (append-nil queue), λ k d h. absurd (omega arith));
+  kept = λ v h. h;
+  added = ([], sym (append-nil queue), λ k d h. absurd (omega arith), λ k d h. absurd (omega arith));
   all = λ k d h. absurd (omega arith);
   count = refl;
 }
@@ -63,10 +65,12 @@ Marking-push marks₀ queue₀ row marks queue marks' queue' i m lt in-marks was
     let made : P (set marks node true) (queue ++ node ∷ []) = record {
       len = length-set marks node true ∙ m.len;
       marked = marked-push marks queue node in-marks m.marked;
+      kept = λ v h. IsMarked-set marks node v in-marks (m.kept v h);
       added = (
         m.added.0 ++ node ∷ [],
         ap (λ xs. xs ++ node ∷ []) m.added.1 ∙ append_assoc queue₀ m.added.0 (node ∷ []),
         All-push (Contains row) m.added.0 node m.added.2 (Contains-get_or row i 0 lt),
+        All-push (λ v. IsMarked marks₀ v → ⊥) m.added.0 node m.added.3 (λ h. false≢true (sym was ∙ m.kept node h)),
       );
       all = All-more (IsMarked (set marks node true)) row i 0 lt (All-weaker (IsMarked marks) (IsMarked (set marks node true)) (λ v h. IsMarked-set marks node v in-marks h) (take i row) m.all) (get_or-set_same marks node true false in-marks);
       count = omega (arith, m.count, count_by-mark marks node in-marks was, length_push queue node);
@@ -77,6 +81,7 @@ pub Marking-skip : (marks₀ : List Bool) (queue₀ row : List ℕ) (marks : Lis
 Marking-skip marks₀ queue₀ row marks queue i m lt was = record {
   len = m.len;
   marked = m.marked;
+  kept = m.kept;
   added = m.added;
   all = All-more (IsMarked marks) row i 0 lt m.all was;
   count = m.count;
@@ -97,3 +102,7 @@ marks_exact-push P marks marks' i mark len is exact here node lt =
     let made : Q i = (λ yes. here.0 (sym last ∙ yes), λ p. last ∙ here.1 p) in
     subst Q e made)
     (cases_lt node i)
+
+-- none of the marks is set at first
+pub marks_none : (n v : ℕ) → get_or (replicate n false) v false ≡ false
+marks_none n v = ⊎_elim (λ (lt : v < n). get_or-replicate n v false false lt) (λ (past : n ≤ v). get_or_past (replicate n false) v false (omega (arith, length-replicate {A = Bool} n false))) (cases_lt v n)

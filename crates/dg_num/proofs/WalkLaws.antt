@@ -1,7 +1,7 @@
 use Rattle.std.proofs.Common.{◌≡◌, ◌+◌, ◌-◌, ◌<◌, ◌≤◌, ◌⊎◌, ℕ, zero, suc, List, Contains, sym, ap, subst, refl, ⊎_elim, arith}
 use Rattle.dg_num.specs.declared.graph.Graph.{Graph}
 use Rattle.dg_num.specs.Graph.{HasEdge}
-use Rattle.dg_num.specs.Walks.{Walk, IsReached, IsOnCycle, IsRank}
+use Rattle.dg_num.specs.Walks.{Walk, Leads, IsReached, IsOnCycle, IsRank}
 
 -- what edges keep walks keep
 pub kept_along : (graph : Graph) (P : ℕ → Type 0) → ((a b : ℕ) → P a → HasEdge graph a b → P b) → (edges a b : ℕ) → Walk graph edges a b → P a → P b
@@ -80,3 +80,9 @@ IsOnCycle-from_reached graph node row edges reached = (suc reached.2, omega arit
 pub IsReached-from_cycle : (graph : Graph) (node : ℕ) (row : List ℕ) → ((b : ℕ) → HasEdge graph node b → Contains row b) → IsOnCycle graph node → IsReached graph row node
 IsReached-from_cycle graph node row edges (zero, le, walk) = absurd (omega arith)
 IsReached-from_cycle graph node row edges (suc k, le, walk) = (walk.0, edges walk.0 walk.1, k, walk.2)
+
+pub Leads-trans : (graph : Graph) (a b c : ℕ) → Leads graph a b → Leads graph b c → Leads graph a c
+Leads-trans graph a b c first second = let all = Walk-append graph first.0 second.0 a b c first.1 second.1 in (all.0, all.2)
+
+pub Leads-edge : (graph : Graph) (a b : ℕ) → HasEdge graph a b → Leads graph a b
+Leads-edge graph a b edge = (1, (b, edge, refl))

@@ -7,6 +7,10 @@ abbrev pub Walk : Graph → ℕ → ℕ → ℕ → Type 0
 Walk graph zero a b = a ≡ b
 Walk graph (suc edges) a b = (c : ℕ) × HasEdge graph a c × Walk graph edges c b
 
+-- a walk, maybe of no edge, leads from `a` to `b`
+abbrev pub Leads : Graph → ℕ → ℕ → Type 0
+Leads graph a b = (edges : ℕ) × Walk graph edges a b
+
 -- a walk, maybe of no edge, leads to the node from one of `from`
 abbrev pub IsReached : Graph → List ℕ → ℕ → Type 0
 IsReached graph from node = (start : ℕ) × Contains from start × (edges : ℕ) × Walk graph edges start node

@@ -1,6 +1,7 @@
 //! Graphs over numbered nodes: which nodes walks reach, which lie on cycles, and how long the longest walks are.
 #![tactic(auto)]
 
+mod components;
 mod cycles;
 mod graph;
 mod memory;
@@ -13,3 +14,6 @@ pub use graph::Graph;
 pub use memory::NoMemory;
 pub use ranking::{RankFault, ranks};
 pub use reached::reach;
+
+#[cfg(test)]
+mod tests;

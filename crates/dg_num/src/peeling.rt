@@ -29,7 +29,7 @@ pub(crate) fn peel(alloc: Global, graph: &Graph, turned: &Graph) -> Result<Vec<u
 }
 
 /// How many edges each node has.
-fn row_lengths(alloc: Global, graph: &Graph) -> Result<Vec<usize>, NoMemory>
+pub(crate) fn row_lengths(alloc: Global, graph: &Graph) -> Result<Vec<usize>, NoMemory>
     ensures len { IfOk result (λ lengths. vec_len lengths ≡ node_count graph.now) }
     ensures exact { IfOk result (λ lengths. (node : ℕ) → slice_index lengths.items node ≡ length (successors graph.now node)) }
 {

@@ -27,12 +27,13 @@ pub fn reach(alloc: Global, graph: &Graph, from: &[u32]) -> Result<Vec<bool>, No
 
 /// Marks the nodes of `row` that have no mark yet, and puts each of them at the end of the queue, which so has the
 /// marked nodes.
-fn mark_new(marks: &mut Vec<bool>, queue: &mut Vec<u32>, row: &[u32]) -> Result<(), NoMemory>
+pub(crate) fn mark_new(marks: &mut Vec<bool>, queue: &mut Vec<u32>, row: &[u32]) -> Result<(), NoMemory>
     requires row { All (λ node. node < vec_len marks.old) row.now }
     requires marked { (node : ℕ) → IsMarked marks.old.items node ↔ Contains queue.old.items node }
     ensures len { vec_len marks.new ≡ vec_len marks.old }
     ensures marked { OnOk result ((node : ℕ) → IsMarked marks.new.items node ↔ Contains queue.new.items node) }
-    ensures added { OnOk result ((added : List ℕ) × (queue.new.items ≡ queue.old.items ++ added) × All (Contains row.now) added) }
+    ensures added { OnOk result ((added : List ℕ) × (queue.new.items ≡ queue.old.items ++ added)
+        × All (Contains row.now) added × All (λ node. IsMarked marks.old.items node → ⊥) added) }
     ensures row { OnOk result (All (IsMarked marks.new.items) row.now) }
     ensures count { OnOk result (count_by not marks.new.items + vec_len queue.new
         ≡ count_by not marks.old.items + vec_len queue.old) }
