@@ -46,14 +46,14 @@ leads_back graph order old j sound f in-order behind (suc edges) x i k ik kj at 
     let E : ℕ → Type 0 = λ y. HasEdge graph y c in
     ⊎_elim
     (λ (has : Contains (take (k + 1) order) c).
-      let q = place_in_front order (k + 1) c has in
-      leads_back graph order old j sound f in-order behind edges c q.0 k (omega (arith, q.1)) kj q.3 walk.1.2)
+    let q = place_in_front order (k + 1) c has in
+    leads_back graph order old j sound f in-order behind edges c q.0 k (omega (arith, q.1)) kj q.3 walk.1.2)
     (λ (leads : Leads graph c (get_or order k 0)).
-      let p = node_place graph order f c (sound.in_range x c walk.1.1) in
-      let pj : p.0 ≤ j = ⊎_elim (λ (past : j < p.0). let Q : ℕ → Type 0 = λ y. Contains old y in absurd (fresh_start graph old edges c (get_or order j 0) walk.1.2 (subst Q p.2 (behind p.0 past p.1)))) (λ (le : p.0 ≤ j). le) (cases_lt j p.0) in
-      let to-c = leads_back graph order old j sound f in-order behind edges c p.0 p.0 (omega arith) pj p.2 walk.1.2 in
-      let L : ℕ → Type 0 = λ y. Leads graph (get_or order j 0) y in
-      Leads-trans graph (get_or order j 0) c (get_or order k 0) (subst L p.2 to-c) leads)
+    let p = node_place graph order f c (sound.in_range x c walk.1.1) in
+    let pj : p.0 ≤ j = ⊎_elim (λ (past : j < p.0). let Q : ℕ → Type 0 = λ y. Contains old y in absurd (fresh_start graph old edges c (get_or order j 0) walk.1.2 (subst Q p.2 (behind p.0 past p.1)))) (λ (le : p.0 ≤ j). le) (cases_lt j p.0) in
+    let to-c = leads_back graph order old j sound f in-order behind edges c p.0 p.0 (omega arith) pj p.2 walk.1.2 in
+    let L : ℕ → Type 0 = λ y. Leads graph (get_or order j 0) y in
+    Leads-trans graph (get_or order j 0) c (get_or order k 0) (subst L p.2 to-c) leads)
     (f.edges i k c ik (omega (arith, kj, in-order)) (subst E (sym at) walk.1.1))
 
 -- the nodes of the queue before `start` have their numbers, and those from there on belong to one component, whose
@@ -100,7 +100,7 @@ Numbering-start graph turned order marks queue numbers root n-marks n-numbers no
       below = λ a has. absurd (no a has);
       now = λ k le lt. absurd (omega (arith, lt));
       edges = λ b a has edge. absurd (no b has);
-      same = λ a b has. absurd (no a has)
+      same = λ a b has. absurd (no a has);
     }
 
 -- the old nodes stand in the queue
@@ -144,48 +144,48 @@ Numbering-look graph turned order old marks marks' queue queue' added numbers nu
       root_le = n.root_le;
       some_root = λ h. n.some_root (omega (arith, lt, n.start_le));
       fresh = λ k le h has.
-      ⊎_elim
-      (λ (before : k < q). let P : ℕ → Type 0 = λ x. Contains old x in n.fresh k le before (subst P (front k before) has))
-      (λ (past : q ≤ k). All-contains (λ v. IsMarked marks v → ⊥) added (get_or queue' k 0) unmarked (new k past h) ((n.marked (get_or queue' k 0)).1 (old_in_queue start old queue n.old_is (get_or queue' k 0) has)))
-      (cases_lt k q);
+          ⊎_elim
+          (λ (before : k < q). let P : ℕ → Type 0 = λ x. Contains old x in n.fresh k le before (subst P (front k before) has))
+          (λ (past : q ≤ k). All-contains (λ v. IsMarked marks v → ⊥) added (get_or queue' k 0) unmarked (new k past h) ((n.marked (get_or queue' k 0)).1 (old_in_queue start old queue n.old_is (get_or queue' k 0) has)))
+          (cases_lt k q);
       behind = n.behind;
       rooted = λ h. grows (get_or order root 0) (n.rooted h);
       current = λ k le h.
-      ⊎_elim
-      (λ (before : k < q). let P : ℕ → Type 0 = λ x. (edges : ℕ) × FreshWalk graph old edges x (get_or order root 0) in subst P (sym (front k before)) (n.current k le before))
-      (λ (past : q ≤ k).
-        let v = get_or queue' k 0 in
-        let in-row : Contains row v = All-contains (Contains row) added v among (new k past h) in
-        let P : List ℕ → Type 0 = λ xs. Contains xs v in
-        let edge : HasEdge graph v node = HasEdge-back graph turned r v node (subst P row-is in-row) in
-        let v-fresh : Contains old v → ⊥ = λ has. All-contains (λ v. IsMarked marks v → ⊥) added v unmarked (new k past h) ((n.marked v).1 (old_in_queue start old queue n.old_is v has)) in
-        let walk = n.current next n.start_le lt in
-        let F : ℕ → Type 0 = λ x. FreshWalk graph old walk.0 x (get_or order root 0) in
-        (suc walk.0, (v-fresh, (node, edge, subst F node-is walk.1))))
-      (cases_lt k q);
+          ⊎_elim
+          (λ (before : k < q). let P : ℕ → Type 0 = λ x. (edges : ℕ) × FreshWalk graph old edges x (get_or order root 0) in subst P (sym (front k before)) (n.current k le before))
+          (λ (past : q ≤ k).
+          let v = get_or queue' k 0 in
+          let in-row : Contains row v = All-contains (Contains row) added v among (new k past h) in
+          let P : List ℕ → Type 0 = λ xs. Contains xs v in
+          let edge : HasEdge graph v node = HasEdge-back graph turned r v node (subst P row-is in-row) in
+          let v-fresh : Contains old v → ⊥ = λ has. All-contains (λ v. IsMarked marks v → ⊥) added v unmarked (new k past h) ((n.marked v).1 (old_in_queue start old queue n.old_is v has)) in
+          let walk = n.current next n.start_le lt in
+          let F : ℕ → Type 0 = λ x. FreshWalk graph old walk.0 x (get_or order root 0) in
+          (suc walk.0, (v-fresh, (node, edge, subst F node-is walk.1))))
+          (cases_lt k q);
       looked = λ k a h edge.
-      let E : ℕ → Type 0 = λ x. HasEdge turned x a in
-      ⊎_elim
-      (λ (before : k < next). grows a (n.looked k a before (subst E (front k (omega (arith, before, lt))) edge)))
-      (λ (at : next ≤ k).
-        let ek : k ≡ next = omega (arith, at, h) in
-        let is-node : get_or queue' k 0 ≡ node = front k (omega (arith, ek, lt)) ∙ ap (λ x. get_or queue x 0) ek ∙ node-is in
-        let P : List ℕ → Type 0 = λ xs. Contains xs a in
-        (marked' a).0 (All-contains (IsMarked marks') row a all (subst P (sym row-is) (subst E is-node edge))))
-      (cases_lt k next);
+          let E : ℕ → Type 0 = λ x. HasEdge turned x a in
+          ⊎_elim
+          (λ (before : k < next). grows a (n.looked k a before (subst E (front k (omega (arith, before, lt))) edge)))
+          (λ (at : next ≤ k).
+          let ek : k ≡ next = omega (arith, at, h) in
+          let is-node : get_or queue' k 0 ≡ node = front k (omega (arith, ek, lt)) ∙ ap (λ x. get_or queue x 0) ek ∙ node-is in
+          let P : List ℕ → Type 0 = λ xs. Contains xs a in
+          (marked' a).0 (All-contains (IsMarked marks') row a all (subst P (sym row-is) (subst E is-node edge))))
+          (cases_lt k next);
       closed = n.closed;
       below = λ a has. omega (arith, n.below a has, kept a has);
       now = λ k le h.
-      ⊎_elim
-      (λ (e : node ≡ get_or queue' k 0). ap (λ x. get_or numbers' x 0) (sym e) ∙ written)
-      (λ (ne : node ≡ get_or queue' k 0 → ⊥).
-        ⊎_elim
-        (λ (before : k < next). ap (λ xs. get_or xs (get_or queue' k 0) 0) numbers-is ∙ get_or-set_other numbers node (get_or queue' k 0) start 0 (λ e. ne (sym e)) ∙ ap (λ x. get_or numbers x 0) (front k (omega (arith, before, lt))) ∙ n.now k le before)
-        (λ (at : next ≤ k). let ek : k ≡ next = omega (arith, at, h) in absurd (ne (sym (front k (omega (arith, ek, lt)) ∙ ap (λ x. get_or queue x 0) ek ∙ node-is))))
-        (cases_lt k next))
-      (cases_eq node (get_or queue' k 0));
+          ⊎_elim
+          (λ (e : node ≡ get_or queue' k 0). ap (λ x. get_or numbers' x 0) (sym e) ∙ written)
+          (λ (ne : node ≡ get_or queue' k 0 → ⊥).
+          ⊎_elim
+          (λ (before : k < next). ap (λ xs. get_or xs (get_or queue' k 0) 0) numbers-is ∙ get_or-set_other numbers node (get_or queue' k 0) start 0 (λ e. ne (sym e)) ∙ ap (λ x. get_or numbers x 0) (front k (omega (arith, before, lt))) ∙ n.now k le before)
+          (λ (at : next ≤ k). let ek : k ≡ next = omega (arith, at, h) in absurd (ne (sym (front k (omega (arith, ek, lt)) ∙ ap (λ x. get_or queue x 0) ek ∙ node-is))))
+          (cases_lt k next))
+          (cases_eq node (get_or queue' k 0));
       edges = λ b a has edge. omega (arith, n.edges b a has edge, kept b has, kept a (n.closed b a has edge));
-      same = λ a b ha hb e. n.same a b ha hb (sym (kept a ha) ∙ e ∙ kept b hb)
+      same = λ a b ha hb e. n.same a b ha hb (sym (kept a ha) ∙ e ∙ kept b hb);
     } in
     subst N (sym old-is) made
 
@@ -207,21 +207,21 @@ Numbered-component graph turned order old marks queue numbers next start root so
       closed = closed;
       below = λ a has. ⊎_elim (λ (o : Contains old a). omega (arith, n.below a o, n.start_le, n.next_le)) (λ (w : New a). omega (arith, number a w, w.1, w.2)) (place a has);
       edges = λ b a has edge.
-      ⊎_elim
-      (λ (o : Contains old b). n.edges b a o edge)
-      (λ (w : New b). ⊎_elim (λ (oa : Contains old a). omega (arith, n.below a oa, number b w)) (λ (wa : New a). omega (arith, number a wa, number b w)) (place a (closed b a has edge)))
-      (place b has);
+          ⊎_elim
+          (λ (o : Contains old b). n.edges b a o edge)
+          (λ (w : New b). ⊎_elim (λ (oa : Contains old a). omega (arith, n.below a oa, number b w)) (λ (wa : New a). omega (arith, number a wa, number b w)) (place a (closed b a has edge)))
+          (place b has);
       same = λ a b ha hb e.
-      ⊎_elim
-      (λ (oa : Contains old a).
-        ⊎_elim
-        (λ (ob : Contains old b). n.same a b oa ob e)
-        (λ (wb : New b). absurd (omega (arith, e, n.below a oa, number b wb)))
-        (place b hb))
-      (λ (wa : New a).
-        ⊎_elim
-        (λ (ob : Contains old b). absurd (omega (arith, e, n.below b ob, number a wa)))
-        (λ (wb : New b).
+          ⊎_elim
+          (λ (oa : Contains old a).
+          ⊎_elim
+          (λ (ob : Contains old b). n.same a b oa ob e)
+          (λ (wb : New b). absurd (omega (arith, e, n.below a oa, number b wb)))
+          (place b hb))
+          (λ (wa : New a).
+          ⊎_elim
+          (λ (ob : Contains old b). absurd (omega (arith, e, n.below b ob, number a wa)))
+          (λ (wb : New b).
           let F : ℕ → Type 0 = λ x. (edges : ℕ) × FreshWalk graph old edges x root-node in
           let from-a = subst F wa.3 (n.current wa.0 wa.1 wa.2) in
           let from-b = subst F wb.3 (n.current wb.0 wb.1 wb.2) in
@@ -233,8 +233,8 @@ Numbered-component graph turned order old marks queue numbers next start root so
           let back = leads_back graph order old root sound f in-order n.behind from-b.0 b p.0 p.0 (omega arith) pr p.2 from-b.1 in
           let L : ℕ → Type 0 = λ x. Leads graph root-node x in
           Leads-trans graph a root-node b (from-a.0, fresh_walk graph old from-a.0 a root-node from-a.1) (subst L p.2 back))
-        (place b hb))
-      (place a ha)
+          (place b hb))
+          (place a ha);
     }
 
 pub Numbering-next : (graph turned : Graph) (order old : List ℕ) (marks marks' : List Bool) (queue queue' added numbers row : List ℕ) (next start root root' start' : ℕ) → IsSound graph → Finished graph order → Numbering graph turned order old marks queue numbers next start root → length queue ≤ next → root' + 1 ≡ root → start' ≡ length queue → row ≡ get_or order root' 0 ∷ [] → length marks' ≡ length marks → ((v : ℕ) → IsMarked marks' v ↔ Contains queue' v) → queue' ≡ queue ++ added → All (Contains row) added → All (λ v. IsMarked marks v → ⊥) added → All (IsMarked marks') row → Numbering graph turned order (take start' queue') marks' queue' numbers next start' root'
@@ -261,27 +261,27 @@ Numbering-next graph turned order old marks marks' queue queue' added numbers ro
       some_root = λ h. omega (arith, n.root_le, root-is);
       fresh = λ k le h. fresh (get_or queue' k 0) (new k (omega (arith, le, start-is)) h);
       behind = λ k lt h.
-      let P : ℕ → Type 0 = λ x. Contains queue (get_or order x 0) in
-      ⊎_elim
-      (λ (past : root < k). in-queue (get_or order k 0) (n.behind k past h))
-      (λ (at : k ≤ root). let ek : root ≡ k = omega (arith, at, lt, root-is) in subst P ek (n.rooted (omega (arith, ek, h))))
-      (cases_lt root k);
+          let P : ℕ → Type 0 = λ x. Contains queue (get_or order x 0) in
+          ⊎_elim
+          (λ (past : root < k). in-queue (get_or order k 0) (n.behind k past h))
+          (λ (at : k ≤ root). let ek : root ≡ k = omega (arith, at, lt, root-is) in subst P ek (n.rooted (omega (arith, ek, h))))
+          (cases_lt root k);
       rooted = λ h. (marked' r).0 (All-contains (IsMarked marks') row r all (let P : List ℕ → Type 0 = λ xs. Contains xs r in subst P (sym row-is) (0, omega arith, refl)));
       current = λ k le h.
-      let a = new k (omega (arith, le, start-is)) h in
-      let v = get_or queue' k 0 in
-      let P : List ℕ → Type 0 = λ xs. Contains xs v in
-      let is : v ≡ r = only r v (subst P row-is (All-contains (Contains row) added v among a)) in
-      (0, (fresh v a, is));
+          let a = new k (omega (arith, le, start-is)) h in
+          let v = get_or queue' k 0 in
+          let P : List ℕ → Type 0 = λ xs. Contains xs v in
+          let is : v ≡ r = only r v (subst P row-is (All-contains (Contains row) added v among a)) in
+          (0, (fresh v a, is));
       looked = λ k a h edge.
-      let lt : k < q = omega (arith, h, n.next_le) in
-      let E : ℕ → Type 0 = λ x. HasEdge turned x a in
-      grows a (n.looked k a h (subst E (front k lt) edge));
+          let lt : k < q = omega (arith, h, n.next_le) in
+          let E : ℕ → Type 0 = λ x. HasEdge turned x a in
+          grows a (n.looked k a h (subst E (front k lt) edge));
       closed = whole.closed;
       below = λ a has. omega (arith, whole.below a has, start-is);
       now = λ k le h. absurd (omega (arith, le, h, n.next_le, start-is));
       edges = whole.edges;
-      same = whole.same
+      same = whole.same;
     } in
     subst N (sym old-is) made
   where
@@ -294,12 +294,12 @@ Numbering-next graph turned order old marks marks' queue queue' added numbers ro
 -- in the end each node has its number
 pub Numbering-all : (graph turned : Graph) (order old : List ℕ) (marks : List Bool) (queue numbers : List ℕ) (next start root : ℕ) → IsSound graph → Finished graph order → Numbering graph turned order old marks queue numbers next start root → length queue ≤ next → root ≡ 0 → Numbered graph turned queue numbers × ((v : ℕ) → v < node_count graph → Contains queue v)
 Numbering-all graph turned order old marks queue numbers next start root sound f n done root-is = (
-    Numbered-component graph turned order old marks queue numbers next start root sound f n done,
-    λ v lt.
-    let p = node_place graph order f v lt in
-    let P : ℕ → Type 0 = λ x. Contains queue x in
-    ⊎_elim
-    (λ (past : root < p.0). subst P p.2 (old_in_queue start old queue n.old_is (get_or order p.0 0) (n.behind p.0 past p.1)))
-    (λ (at : p.0 ≤ root). let e : root ≡ p.0 = omega (arith, at, root-is) in subst P (ap (λ x. get_or order x 0) e ∙ p.2) (n.rooted (omega (arith, e, p.1))))
-    (cases_lt root p.0)
-    )
+  Numbered-component graph turned order old marks queue numbers next start root sound f n done,
+  λ v lt.
+      let p = node_place graph order f v lt in
+      let P : ℕ → Type 0 = λ x. Contains queue x in
+      ⊎_elim
+      (λ (past : root < p.0). subst P p.2 (old_in_queue start old queue n.old_is (get_or order p.0 0) (n.behind p.0 past p.1)))
+      (λ (at : p.0 ≤ root). let e : root ≡ p.0 = omega (arith, at, root-is) in subst P (ap (λ x. get_or order x 0) e ∙ p.2) (n.rooted (omega (arith, e, p.1))))
+      (cases_lt root p.0),
+)

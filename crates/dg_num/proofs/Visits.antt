@@ -31,7 +31,7 @@ Visiting-start graph seen left path order n-seen n-left full none no-path no-ord
   counts = λ v. omega (arith, ap (λ xs. count_of xs v) no-path, ap (λ xs. count_of xs v) no-order, ap one_if (none v));
   done = λ v has. absurd (omega (arith, has.1, ap length no-order));
   joined = λ i j le lt. absurd (omega (arith, lt, ap length no-path));
-  edges = λ i k after le lt edge. absurd (omega (arith, lt, ap length no-order))
+  edges = λ i k after le lt edge. absurd (omega (arith, lt, ap length no-order));
 }
 
 -- what is on the way or done is a node
@@ -53,26 +53,26 @@ visiting_push graph seen left path order node s in-graph leads none =
       bounded = s.bounded;
       looked = λ v k le h. IsMarked-set seen node (get_or (successors graph v) k 0) lt (s.looked v k le h);
       counts = λ v.
-      ⊎_elim
-      (λ (e : node ≡ v). let P : ℕ → Type 0 = λ x. count_of order x + count_of (path ++ node ∷ []) x ≡ one_if (get_or (set seen node true) x false) in subst P e (omega (arith, s.counts node, ap one_if none, count_of-push_same path node node refl, ap one_if (get_or-set_same seen node true false lt))))
-      (λ (ne : node ≡ v → ⊥). omega (arith, s.counts v, count_of-push_other path node v ne, ap one_if (get_or-set_other seen node v true false (λ e. ne (sym e)))))
-      (cases_eq node v);
+          ⊎_elim
+          (λ (e : node ≡ v). let P : ℕ → Type 0 = λ x. count_of order x + count_of (path ++ node ∷ []) x ≡ one_if (get_or (set seen node true) x false) in subst P e (omega (arith, s.counts node, ap one_if none, count_of-push_same path node node refl, ap one_if (get_or-set_same seen node true false lt))))
+          (λ (ne : node ≡ v → ⊥). omega (arith, s.counts v, count_of-push_other path node v ne, ap one_if (get_or-set_other seen node v true false (λ e. ne (sym e)))))
+          (cases_eq node v);
       done = s.done;
       joined = λ i j le h.
-      ⊎_elim
-      (λ (jl : j < length path).
-        let P : ℕ → ℕ → Type 0 = λ a b. Leads graph a b in
-        subst (λ a. P a (get_or (path ++ node ∷ []) j 0)) (sym (front i (omega arith))) (subst (λ b. P (get_or path i 0) b) (sym (front j jl)) (s.joined i j le jl)))
-      (λ (jg : length path ≤ j).
-        let ej : length path ≡ j = omega (arith, h, jg, length_push path node) in
-        let at-j : get_or (path ++ node ∷ []) j 0 ≡ node = ap (λ x. get_or (path ++ node ∷ []) x 0) (sym ej) ∙ last in
-        let P : ℕ → ℕ → Type 0 = λ a b. Leads graph a b in
-        ⊎_elim
-        (λ (il : i < length path). subst (λ a. P a (get_or (path ++ node ∷ []) j 0)) (sym (front i il)) (subst (λ b. P (get_or path i 0) b) (sym at-j) (leads i il)))
-        (λ (ig : length path ≤ i). let same : i ≡ j = omega (arith, le, ig, ej) in (0, ap (λ x. get_or (path ++ node ∷ []) x 0) same))
-        (cases_lt i (length path)))
-      (cases_lt j (length path));
-      edges = s.edges
+          ⊎_elim
+          (λ (jl : j < length path).
+          let P : ℕ → ℕ → Type 0 = λ a b. Leads graph a b in
+          subst (λ a. P a (get_or (path ++ node ∷ []) j 0)) (sym (front i (omega arith))) (subst (λ b. P (get_or path i 0) b) (sym (front j jl)) (s.joined i j le jl)))
+          (λ (jg : length path ≤ j).
+          let ej : length path ≡ j = omega (arith, h, jg, length_push path node) in
+          let at-j : get_or (path ++ node ∷ []) j 0 ≡ node = ap (λ x. get_or (path ++ node ∷ []) x 0) (sym ej) ∙ last in
+          let P : ℕ → ℕ → Type 0 = λ a b. Leads graph a b in
+          ⊎_elim
+          (λ (il : i < length path). subst (λ a. P a (get_or (path ++ node ∷ []) j 0)) (sym (front i il)) (subst (λ b. P (get_or path i 0) b) (sym at-j) (leads i il)))
+          (λ (ig : length path ≤ i). let same : i ≡ j = omega (arith, le, ig, ej) in (0, ap (λ x. get_or (path ++ node ∷ []) x 0) same))
+          (cases_lt i (length path)))
+          (cases_lt j (length path));
+      edges = s.edges;
     }
 
 -- a node is put at the end of the path, if it wasn't seen before
@@ -99,22 +99,22 @@ Visiting-look graph seen left left' path order node s in-graph some is marked =
       for_left = length-set left node (l - 1) ∙ s.for_left;
       bounded = λ v. ⊎_elim (λ (e : node ≡ v). omega (arith, at v e, s.bounded v, ap (λ x. get_or left x 0) e)) (λ (ne : node ≡ v → ⊥). omega (arith, other v ne, s.bounded v)) (cases_eq node v);
       looked = λ v k le h.
-      ⊎_elim
-      (λ (e : node ≡ v).
-        let same : l ≡ get_or left v 0 = ap (λ x. get_or left x 0) e in
-        ⊎_elim
-        (λ (less : k < l).
+          ⊎_elim
+          (λ (e : node ≡ v).
+          let same : l ≡ get_or left v 0 = ap (λ x. get_or left x 0) e in
+          ⊎_elim
+          (λ (less : k < l).
           let ek : l - 1 ≡ k = omega (arith, less, le, at v e, some) in
           let Q : ℕ → Type 0 = λ x. IsMarked seen x in
           subst Q (ap (λ x. get_or (successors graph x) (l - 1) 0) e ∙ ap (λ x. get_or (successors graph v) x 0) ek) marked)
-        (λ (more : l ≤ k). s.looked v k (omega (arith, same, more)) h)
-        (cases_lt k l))
-      (λ (ne : node ≡ v → ⊥). s.looked v k (omega (arith, other v ne, le)) h)
-      (cases_eq node v);
+          (λ (more : l ≤ k). s.looked v k (omega (arith, same, more)) h)
+          (cases_lt k l))
+          (λ (ne : node ≡ v → ⊥). s.looked v k (omega (arith, other v ne, le)) h)
+          (cases_eq node v);
       counts = s.counts;
       done = λ v has. ⊎_elim (λ (e : node ≡ v). absurd (omega (arith, s.done v has, ap (λ x. get_or left x 0) e, some))) (λ (ne : node ≡ v → ⊥). other v ne ∙ s.done v has) (cases_eq node v);
       joined = s.joined;
-      edges = s.edges
+      edges = s.edges;
     } in
     subst P (sym is) made
 
@@ -137,43 +137,43 @@ Visiting-finish graph seen left path rest order order' node s path-is none order
       bounded = s.bounded;
       looked = s.looked;
       counts = λ v.
-      let on-path = ap (λ xs. count_of xs v) path-is in
-      ⊎_elim
-      (λ (e : node ≡ v). omega (arith, s.counts v, on-path, count_of-push_same rest node v e, count_of-push_same order node v e))
-      (λ (ne : node ≡ v → ⊥). omega (arith, s.counts v, on-path, count_of-push_other rest node v ne, count_of-push_other order node v ne))
-      (cases_eq node v);
+          let on-path = ap (λ xs. count_of xs v) path-is in
+          ⊎_elim
+          (λ (e : node ≡ v). omega (arith, s.counts v, on-path, count_of-push_same rest node v e, count_of-push_same order node v e))
+          (λ (ne : node ≡ v → ⊥). omega (arith, s.counts v, on-path, count_of-push_other rest node v ne, count_of-push_other order node v ne))
+          (cases_eq node v);
       done = done;
       joined = λ i j le h.
-      let Q : ℕ → ℕ → Type 0 = λ a b. Leads graph a b in
-      subst (λ a. Q a (get_or rest j 0)) (front i (omega arith)) (subst (λ b. Q (get_or path i 0) b) (front j h) (s.joined i j le (omega (arith, h, lens))));
+          let Q : ℕ → ℕ → Type 0 = λ a b. Leads graph a b in
+          subst (λ a. Q a (get_or rest j 0)) (front i (omega arith)) (subst (λ b. Q (get_or path i 0) b) (front j h) (s.joined i j le (omega (arith, h, lens))));
       edges = λ i k after le h edge.
-      ⊎_elim
-      (λ (before : k < n).
-        let E : ℕ → Type 0 = λ x. HasEdge graph x after in
-        let T : List ℕ → Type 0 = λ xs. Contains xs after in
-        let L : ℕ → Type 0 = λ x. Leads graph after x in
-        ⊎_elim
-        (λ (c : Contains (take (k + 1) order) after). inl (subst T (sym (take-append-le (k + 1) order (node ∷ []) (omega arith))) c))
-        (λ (l : Leads graph after (get_or order k 0)). inr (subst L (sym (old k before)) l))
-        (s.edges i k after le before (subst E (old i (omega arith)) edge)))
-      (λ (at : n ≤ k).
-        let ek : n ≡ k = omega (arith, at, h, long) in
-        let u = get_or whole i 0 in
-        let place = place_of (successors graph u) after edge in
-        let zero' = done u (Contains-get_or whole i 0 (omega (arith, le, h))) in
-        let M : ℕ → Type 0 = λ x. IsMarked seen x in
-        let marked : IsMarked seen after = subst M place.2 (s.looked u place.0 (omega (arith, zero')) place.1) in
-        let T : List ℕ → Type 0 = λ xs. Contains xs after in
-        ⊎_elim
-        (λ (ordered : 0 < count_of order after). inl (subst T (sym (take_all (k + 1) whole (omega (arith, ek, long)))) (Contains-append_left order (node ∷ []) after (contained_from_count_of order after (omega arith)))))
-        (λ (not-yet : count_of order after ≤ 0).
+          ⊎_elim
+          (λ (before : k < n).
+          let E : ℕ → Type 0 = λ x. HasEdge graph x after in
+          let T : List ℕ → Type 0 = λ xs. Contains xs after in
+          let L : ℕ → Type 0 = λ x. Leads graph after x in
+          ⊎_elim
+          (λ (c : Contains (take (k + 1) order) after). inl (subst T (sym (take-append-le (k + 1) order (node ∷ []) (omega arith))) c))
+          (λ (l : Leads graph after (get_or order k 0)). inr (subst L (sym (old k before)) l))
+          (s.edges i k after le before (subst E (old i (omega arith)) edge)))
+          (λ (at : n ≤ k).
+          let ek : n ≡ k = omega (arith, at, h, long) in
+          let u = get_or whole i 0 in
+          let place = place_of (successors graph u) after edge in
+          let zero' = done u (Contains-get_or whole i 0 (omega (arith, le, h))) in
+          let M : ℕ → Type 0 = λ x. IsMarked seen x in
+          let marked : IsMarked seen after = subst M place.2 (s.looked u place.0 (omega (arith, zero')) place.1) in
+          let T : List ℕ → Type 0 = λ xs. Contains xs after in
+          ⊎_elim
+          (λ (ordered : 0 < count_of order after). inl (subst T (sym (take_all (k + 1) whole (omega (arith, ek, long)))) (Contains-append_left order (node ∷ []) after (contained_from_count_of order after (omega arith)))))
+          (λ (not-yet : count_of order after ≤ 0).
           let on-path = place_of path after (contained_from_count_of path after (omega (arith, s.counts after, ap one_if marked, not-yet))) in
           let leads = s.joined on-path.0 (length rest) (omega (arith, on-path.1, lens)) (omega (arith, lens)) in
           let at-k : node ≡ get_or whole k 0 = sym new ∙ ap (λ x. get_or whole x 0) ek in
           let Q : ℕ → ℕ → Type 0 = λ a b. Leads graph a b in
           inr (subst (λ b. Q after b) (top ∙ at-k) (subst (λ a. Q a (get_or path (length rest) 0)) on-path.2 leads)))
-        (cases_lt 0 (count_of order after)))
-      (cases_lt k n)
+          (cases_lt 0 (count_of order after)))
+          (cases_lt k n);
     } in
     subst P (sym order-is) made
 

@@ -73,13 +73,13 @@ Walk-reversed graph turned turn (suc edges) a b walk = Walk-push turned edges b 
 pub IsOnCycle-reversed : (graph turned : Graph) → ((a b : ℕ) → HasEdge graph a b → HasEdge turned b a) → (node : ℕ) → IsOnCycle graph node → IsOnCycle turned node
 IsOnCycle-reversed graph turned turn node cycle = (cycle.0, cycle.1, Walk-reversed graph turned turn cycle.0 node node cycle.2)
 
--- a node lies on a cycle if a walk returns to it from one that follows it
-pub IsOnCycle-from_reached : (graph : Graph) (node : ℕ) (row : List ℕ) → ((b : ℕ) → Contains row b → HasEdge graph node b) → IsReached graph row node → IsOnCycle graph node
-IsOnCycle-from_reached graph node row edges reached = (suc reached.2, omega arith, (reached.0, edges reached.0 reached.1, reached.3))
+-- a node lies on a cycle exactly if a walk returns to it from one that follows it
+pub IsOnCycle-from_leads : (graph : Graph) (node after : ℕ) → HasEdge graph node after → Leads graph after node → IsOnCycle graph node
+IsOnCycle-from_leads graph node after edge leads = (suc leads.0, omega arith, (after, edge, leads.1))
 
-pub IsReached-from_cycle : (graph : Graph) (node : ℕ) (row : List ℕ) → ((b : ℕ) → HasEdge graph node b → Contains row b) → IsOnCycle graph node → IsReached graph row node
-IsReached-from_cycle graph node row edges (zero, le, walk) = absurd (omega arith)
-IsReached-from_cycle graph node row edges (suc k, le, walk) = (walk.0, edges walk.0 walk.1, k, walk.2)
+pub first_on_cycle : (graph : Graph) (node : ℕ) → IsOnCycle graph node → (after : ℕ) × HasEdge graph node after × Leads graph after node
+first_on_cycle graph node (zero, le, walk) = absurd (omega arith)
+first_on_cycle graph node (suc edges, le, walk) = (walk.0, walk.1, (edges, walk.2))
 
 pub Leads-trans : (graph : Graph) (a b c : ℕ) → Leads graph a b → Leads graph b c → Leads graph a c
 Leads-trans graph a b c first second = let all = Walk-append graph first.0 second.0 a b c first.1 second.1 in (all.0, all.2)

@@ -12,7 +12,11 @@ use std::alloc::Global;
 /// Numbers the strongly connected components, so that two nodes have one number exactly where walks lead from each to
 /// the other, and no edge leads to a lower number. `turned` is the graph with its edges turned round. Time and memory
 /// grow with the nodes and edges.
-pub(crate) fn component_numbers(alloc: Global, graph: &Graph, turned: &Graph) -> Result<Vec<usize>, NoMemory>
+pub(crate) fn component_numbers(
+    alloc: Global,
+    graph: &Graph,
+    turned: &Graph,
+) -> Result<Vec<usize>, NoMemory>
     requires graph { IsSound graph.now }
     requires turned { IsReversed graph.now turned.now }
     ensures len { IfOk result (λ numbers. vec_len numbers ≡ node_count graph.now) }
@@ -85,8 +89,8 @@ fn next_edge(graph: &Graph, node: u32, left: &mut Vec<usize>) -> Option<u32>
     ensures cases { MatchOption result
         ((slice_index left.old.items node ≡ 0) × (left.new.items ≡ left.old.items))
         (λ after. (left.new.items ≡ slice_set left.old.items node (slice_index left.old.items node - 1))
-            × (1 ≤ slice_index left.old.items node)
-            × (after ≡ slice_index (successors graph.now node) (slice_index left.old.items node - 1))) }
+        × (1 ≤ slice_index left.old.items node)
+        × (after ≡ slice_index (successors graph.now node) (slice_index left.old.items node - 1))) }
 {
     let count = left[node as usize];
     if count == 0 {
@@ -101,9 +105,9 @@ fn enter(seen: &mut Vec<bool>, path: &mut Vec<u32>, node: u32) -> Result<(), NoM
     requires { node < vec_len seen.old }
     ensures len { vec_len seen.new ≡ vec_len seen.old }
     ensures cases { OnOk result (((slice_index_or seen.old.items node false ≡ true)
-            × (seen.new.items ≡ seen.old.items) × (path.new.items ≡ path.old.items))
+        × (seen.new.items ≡ seen.old.items) × (path.new.items ≡ path.old.items))
         ⊎ ((slice_index_or seen.old.items node false ≡ false)
-            × (seen.new.items ≡ slice_set seen.old.items node true) × (path.new.items ≡ path.old.items ++ node ∷ []))) }
+        × (seen.new.items ≡ slice_set seen.old.items node true) × (path.new.items ≡ path.old.items ++ node ∷ []))) }
 {
     if !seen[node as usize] {
         path.push(node)?;

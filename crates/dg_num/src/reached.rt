@@ -27,7 +27,11 @@ pub fn reach(alloc: Global, graph: &Graph, from: &[u32]) -> Result<Vec<bool>, No
 
 /// Marks the nodes of `row` that have no mark yet, and puts each of them at the end of the queue, which so has the
 /// marked nodes.
-pub(crate) fn mark_new(marks: &mut Vec<bool>, queue: &mut Vec<u32>, row: &[u32]) -> Result<(), NoMemory>
+pub(crate) fn mark_new(
+    marks: &mut Vec<bool>,
+    queue: &mut Vec<u32>,
+    row: &[u32],
+) -> Result<(), NoMemory>
     requires row { All (λ node. node < vec_len marks.old) row.now }
     requires marked { (node : ℕ) → IsMarked marks.old.items node ↔ Contains queue.old.items node }
     ensures len { vec_len marks.new ≡ vec_len marks.old }

@@ -226,8 +226,8 @@ fn graphs_with_cycles(rt: HostRuntime) -> Result<(), Fail> {
     Ok(())
 }
 
-/// Each node leads to the next one, and the last one to none.
-fn chain(rt: &impl Abort, alloc: Global, count: u32) -> Result<Graph, Fail>
+/// Each node leads to the next one, and the last one to the first or to none.
+fn chain(rt: &impl Abort, alloc: Global, count: u32, closed: bool) -> Result<Graph, Fail>
     ensures { IfOk result IsSound }
 {
     let mut next = Vec::with_capacity(alloc, count as usize)?;
@@ -235,6 +235,8 @@ fn chain(rt: &impl Abort, alloc: Global, count: u32) -> Result<Graph, Fail>
         let mut row = Vec::new(alloc);
         if node < count - 1 {
             row.push(node + 1)?;
+        } else if closed {
+            row.push(0)?;
         }
         next.push(row)?;
     }
@@ -246,7 +248,7 @@ fn chain(rt: &impl Abort, alloc: Global, count: u32) -> Result<Graph, Fail>
 #[test]
 fn long_chain(rt: HostRuntime) -> Result<(), Fail> {
     let alloc = rt.alloc();
-    let graph = chain(&rt, alloc, 1_000_000)?;
+    let graph = chain(&rt, alloc, 1_000_000, false)?;
     assert!(rt; graph.next.len() == 1_000_000);
     let reached = reach(alloc, &graph, &[0])?;
     assert!(rt; reached.iter().all(|mark| *mark));
@@ -256,5 +258,18 @@ fn long_chain(rt: HostRuntime) -> Result<(), Fail> {
     for (node, rank) in ranks.iter().enumerate() {
         assert!(rt; node as u64 + *rank as u64 == 1_000_000);
     }
+    Ok(())
+}
+
+#[test]
+fn long_ring(rt: HostRuntime) -> Result<(), Fail> {
+    let alloc = rt.alloc();
+    let graph = chain(&rt, alloc, 1_000_000, true)?;
+    assert!(rt; graph.next.len() == 1_000_000);
+    let reached = reach(alloc, &graph, &[999_999])?;
+    assert!(rt; reached.iter().all(|mark| *mark));
+    let cyclic = on_cycle(alloc, &graph)?;
+    assert!(rt; cyclic.iter().all(|mark| *mark));
+    assert!(rt; matches!(ranks(alloc, &graph), Err(RankFault::Cyclic { node: 0 })));
     Ok(())
 }

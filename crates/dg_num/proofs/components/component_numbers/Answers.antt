@@ -48,7 +48,7 @@ loop-next-preserved c =
     let finished : Finished c.args.graph.now order = record {
       nodes = c.in_ok-order.ensures.nodes;
       each = c.in_ok-order.ensures.each;
-      edges = c.in_ok-order.ensures.edges
+      edges = c.in_ok-order.ensures.edges;
     } in
     let root = c.loop-next.root - 1 in
     let at = get_or_read order root c.index.result.now (omega (arith, c.loop-next.invariant.root_le)) c.index.ensures 0 in
@@ -63,7 +63,7 @@ returns-else-root-gt0-clause-edges c = λ a b edge.
     let finished : Finished graph order = record {
       nodes = c.in_ok-order.ensures.nodes;
       each = c.in_ok-order.ensures.each;
-      edges = c.in_ok-order.ensures.edges
+      edges = c.in_ok-order.ensures.edges;
     } in
     let all = Numbering-all graph c.args.turned.now order (take c.loop-next.number queue) c.loop-next.marks.items queue c.loop-next.numbers.items c.loop-next.next c.loop-next.number c.loop-next.root c.requires.graph finished c.loop-next.invariant (omega arith) (omega arith) in
     all.0.edges b a (all.1 b (c.requires.graph.in_range a b edge)) (HasEdge-reversed graph c.args.turned.now c.requires.turned a b edge)
@@ -76,7 +76,7 @@ returns-else-root-gt0-clause-same c = λ a b la lb same.
     let finished : Finished graph order = record {
       nodes = c.in_ok-order.ensures.nodes;
       each = c.in_ok-order.ensures.each;
-      edges = c.in_ok-order.ensures.edges
+      edges = c.in_ok-order.ensures.edges;
     } in
     let all = Numbering-all graph c.args.turned.now order (take c.loop-next.number queue) c.loop-next.marks.items queue c.loop-next.numbers.items c.loop-next.next c.loop-next.number c.loop-next.root c.requires.graph finished c.loop-next.invariant (omega arith) (omega arith) in
     all.0.same a b (all.1 a la) (all.1 b lb) same

@@ -40,7 +40,7 @@ loop-node-preserved-in-Continue-branch-5 c =
     record {
       visiting = Visiting-look graph c.enter.new.seen.items left c.next_edge.new.left.items c.enter.new.path.items order node entered.0 (Visiting-top graph seen left path rest order node s path-is) step.1 step.0 (subst M step.2 entered.1);
       roots = λ v lt. entered.2 v (c.loop-node.invariant.roots v lt);
-      root_le = c.loop-node.invariant.root_le
+      root_le = c.loop-node.invariant.root_le;
     }
 
 pub loop-node-preserved-in-Continue-branch-6 : goal.loop-node-preserved-in-Continue-branch-6
@@ -55,7 +55,7 @@ loop-node-preserved-in-Continue-branch-6 c =
     record {
       visiting = subst V (sym step.1) (Visiting-finish graph seen left c.loop-node.path.items rest order c.push-in_default-next_edge.new.self.items c.in-Some.node c.loop-node.invariant.visiting c.in-Some.ensures.items step.0 c.in_ok-push-2.ensures.items);
       roots = c.loop-node.invariant.roots;
-      root_le = c.loop-node.invariant.root_le
+      root_le = c.loop-node.invariant.root_le;
     }
 
 pub returns-else-root-len-clause-nodes : goal.returns-else-root-len-clause-nodes
