@@ -1,14 +1,14 @@
-use Rattle.std.proofs.Common.{◌≡◌, ◌+◌, ◌-◌, ◌<◌, ◌≤◌, ◌↔◌, ◌⊎◌, ◌++◌, ◌∷◌, [], ℕ, zero, suc, Bool, true, false, List, length, get_or, set, take, All, Contains, refl, sym, ap, ◌∙◌, subst, inl, inr, ⊎_elim, arith}
+use Rattle.std.proofs.Common.{◌≡◌, ◌+◌, ◌-◌, ◌<◌, ◌≤◌, ◌↔◌, ◌⊎◌, ◌++◌, ◌∷◌, [], ℕ, zero, suc, Bool, false, List, length, get_or, set, take, All, Contains, refl, sym, ap, ◌∙◌, subst, inl, inr, ⊎_elim, arith}
 use Rattle.std.proofs.lemmas.Bool.{cases_eq, cases_lt, false≢true}
 use Rattle.std.proofs.lemmas.List.{get_or_append_left, get_or-append_right, get_or-set_same, get_or-set_other, length-append, length-set, take-append-le, take_at}
-use Rattle.std.proofs.lemmas.List.Elements.{All-contains, Contains-append_left, Contains-get_or}
+use Rattle.std.proofs.lemmas.List.Elements.{All-contains, Contains-append_left}
 use Rattle.dg_num.specs.declared.graph.Graph.{Graph}
 use Rattle.dg_num.specs.Counts.{count_of, IsReversed}
 use Rattle.dg_num.specs.Graph.{node_count, successors, HasEdge, IsSound}
 use Rattle.dg_num.specs.Walks.{Walk, Leads, IsMarked}
 use Rattle.dg_num.proofs.Counts.{contained_from_count_of, one_place, place_in_front, contained_in_front, place_of, contained_at}
 use Rattle.dg_num.proofs.Marks.{marked_within}
-use Rattle.dg_num.proofs.Rows.{HasEdge-back, HasEdge-reversed}
+use Rattle.dg_num.proofs.Rows.{HasEdge-back}
 use Rattle.dg_num.proofs.WalkLaws.{Leads-trans}
 
 -- a walk past none of the old nodes

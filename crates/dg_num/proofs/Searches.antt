@@ -20,7 +20,7 @@ pub Searched-start : (graph : Graph) (from : List ℕ) (marks : List Bool) (queu
 Searched-start graph from marks queue added len marked is among starts = record {
   for_each_node = len;
   marked = marked;
-  sound = λ v has. let P : List ℕ → Type 0 = λ xs. Contains xs v in (v, All-contains (Contains from) added v among (subst P is has), 0, refl);
+  sound = λ v has. let P : List ℕ → Type 0 = λ xs. Contains xs v in (v, All-contains (Contains from) added v among (subst P is has), (0, refl));
   starts = starts;
   closed = λ k b lt edge. absurd (omega arith);
   within = omega arith;
@@ -44,7 +44,7 @@ Searched-end graph from marks queue next s done =
     let closed : (a b : ℕ) → IsMarked marks a → HasEdge graph a b → IsMarked marks b = λ a b m edge. let has = (s.marked a).0 m in let P : ℕ → Type 0 = λ x. HasEdge graph x b in s.closed has.0 b (omega (arith, has.1)) (subst P (sym (default_is queue has.0 a has.1 has.2)) edge) in
     record {
       for_each_node = s.for_each_node;
-      exact = λ node lt. (λ m. s.sound node ((s.marked node).0 m), λ reached. kept_along graph (IsMarked marks) closed reached.2 reached.0 node reached.3 (All-contains (IsMarked marks) from reached.0 s.starts reached.1));
+      exact = λ node lt. (λ m. s.sound node ((s.marked node).0 m), λ reached. kept_along graph (IsMarked marks) closed reached.2.0 reached.0 node reached.2.1 (All-contains (IsMarked marks) from reached.0 s.starts reached.1));
     }
   where
     default_is : (xs : List ℕ) (k a : ℕ) → k < length xs → get_or xs k a ≡ a → get_or xs k 0 ≡ a

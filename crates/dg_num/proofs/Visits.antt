@@ -1,11 +1,11 @@
 use Rattle.std.proofs.Common.{◌≡◌, ◌+◌, ◌-◌, ◌<◌, ◌≤◌, ◌⊎◌, ◌++◌, ◌∷◌, [], ℕ, Bool, true, false, eqb, List, length, get_or, set, take, All, Contains, refl, sym, ap, ◌∙◌, subst, inl, inr, ⊎_elim, arith}
-use Rattle.std.proofs.lemmas.Bool.{cases_eq, cases_lt, cases_Bool, false≢true}
+use Rattle.std.proofs.lemmas.Bool.{cases_eq, cases_lt, cases_Bool}
 use Rattle.std.proofs.lemmas.List.{get_or_append_left, get_or_push, get_or-set_same, get_or-set_other, length-set, length_push, take-append-le, take_all}
 use Rattle.std.proofs.lemmas.List.Elements.{All-from_get_or, Contains-append_left, Contains-get_or, Contains-push_cases}
 use Rattle.std.proofs.lemmas.List.Sums.{count_by-le-length}
 use Rattle.dg_num.specs.declared.graph.Graph.{Graph}
 use Rattle.dg_num.specs.Counts.{count_of}
-use Rattle.dg_num.specs.Graph.{node_count, successors, HasEdge, IsSound}
+use Rattle.dg_num.specs.Graph.{node_count, successors, HasEdge}
 use Rattle.dg_num.specs.Walks.{Leads, IsMarked}
 use Rattle.dg_num.proofs.Counts.{one_if, count_of-push_same, count_of-push_other, count_of_contained, contained_from_count_of, place_of}
 use Rattle.dg_num.proofs.Marks.{IsMarked-set, marked_within}

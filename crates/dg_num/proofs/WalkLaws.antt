@@ -1,4 +1,4 @@
-use Rattle.std.proofs.Common.{◌≡◌, ◌+◌, ◌-◌, ◌<◌, ◌≤◌, ◌⊎◌, ℕ, zero, suc, List, Contains, sym, ap, subst, refl, ⊎_elim, arith}
+use Rattle.std.proofs.Common.{◌≡◌, ◌+◌, ◌-◌, ◌<◌, ◌≤◌, ◌⊎◌, ℕ, zero, suc, List, sym, ap, subst, refl, ⊎_elim, arith}
 use Rattle.dg_num.specs.declared.graph.Graph.{Graph}
 use Rattle.dg_num.specs.Graph.{HasEdge}
 use Rattle.dg_num.specs.Walks.{Walk, Leads, IsReached, IsOnCycle, IsRank}
@@ -15,7 +15,7 @@ Walk-push graph (suc edges) a b c walk edge = (walk.0, walk.1, Walk-push graph e
 
 -- what is reached leads on to what is reached
 pub IsReached-edge : (graph : Graph) (from : List ℕ) (a b : ℕ) → IsReached graph from a → HasEdge graph a b → IsReached graph from b
-IsReached-edge graph from a b reached edge = (reached.0, reached.1, suc reached.2, Walk-push graph reached.2 reached.0 a b reached.3 edge)
+IsReached-edge graph from a b reached edge = (reached.0, reached.1, (suc reached.2.0, Walk-push graph reached.2.0 reached.0 a b reached.2.1 edge))
 
 -- each edge from a node with a number leads to a lower one that isn't 0, and to the next lower one if any is
 abbrev pub Ranked : Graph → (ℕ → ℕ) → Type 0

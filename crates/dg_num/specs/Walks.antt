@@ -13,7 +13,7 @@ Leads graph a b = (edges : ℕ) × Walk graph edges a b
 
 -- a walk, maybe of no edge, leads to the node from one of `from`
 abbrev pub IsReached : Graph → List ℕ → ℕ → Type 0
-IsReached graph from node = (start : ℕ) × Contains from start × (edges : ℕ) × Walk graph edges start node
+IsReached graph from node = (start : ℕ) × Contains from start × Leads graph start node
 
 -- a walk of at least one edge returns to the node
 abbrev pub IsOnCycle : Graph → ℕ → Type 0

@@ -1,4 +1,5 @@
 ghost use Rattle.std.specs.Prelude.{◌≡◌, ◌<◌, ◌↔◌, ℕ, All, Contains, IfOk, IsTrue, length, slice_index};
+ghost use Rattle.dg_num.specs.Counts.{IsReversed};
 ghost use Rattle.dg_num.specs.Graph.{IsSound};
 ghost use Rattle.dg_num.specs.Walks.{IsOnCycle, MarksExactly};
 
@@ -13,8 +14,20 @@ pub fn on_cycle(alloc: Global, graph: &Graph) -> Result<Vec<bool>, NoMemory>
     requires { IsSound graph.now }
     ensures exact { IfOk result (λ marks. MarksExactly graph.now (IsOnCycle graph.now) marks.items) }
 {
-    let turned = reversed(alloc, graph)?;
-    let numbers = component_numbers(alloc, graph, &turned)?;
+    marks_on_cycle(alloc, graph, &reversed(alloc, graph)?)
+}
+
+/// The same, where `turned` is the graph with its edges turned round.
+pub(crate) fn marks_on_cycle(
+    alloc: Global,
+    graph: &Graph,
+    turned: &Graph,
+) -> Result<Vec<bool>, NoMemory>
+    requires graph { IsSound graph.now }
+    requires turned { IsReversed graph.now turned.now }
+    ensures exact { IfOk result (λ marks. MarksExactly graph.now (IsOnCycle graph.now) marks.items) }
+{
+    let numbers = component_numbers(alloc, graph, turned)?;
     let mut marks = Vec::with_capacity(alloc, graph.next.len())?;
     for node in 0..graph.next.len() as u32 {
         let number = numbers[node as usize];

@@ -2,7 +2,7 @@ ghost use Rattle.std.specs.Prelude.{◌≡◌, ◌≢◌, ◌^◌, ◌<◌, ◌�
 ghost use Rattle.dg_num.specs.Graph.{node_count, IsSound};
 ghost use Rattle.dg_num.specs.Walks.{IsLeastOnCycle, IsMarked, RanksExactly};
 
-use crate::cycles::on_cycle;
+use crate::cycles::marks_on_cycle;
 use crate::graph::{Graph, reversed};
 use crate::memory::NoMemory;
 use crate::peeling::peel;
@@ -18,9 +18,9 @@ pub enum RankFault {
 }
 
 impl From<NoMemory> for RankFault {
-    ghost use Rattle.dg_num.specs.declared.ranking.RankFault.TheVariants.{NoMemory as Lacks};
+    ghost use Rattle.dg_num.specs.declared.ranking.RankFault.TheVariants.{NoMemory as OutOfMemory};
 
-    ghost from_gives = { λ _ fault. fault ≡ Lacks };
+    ghost from_gives = { λ _ fault. fault ≡ OutOfMemory };
 
     fn from(_: NoMemory) -> RankFault {
         RankFault::NoMemory
@@ -28,7 +28,7 @@ impl From<NoMemory> for RankFault {
 }
 
 /// For each node, the number of nodes on the longest walk that begins there: one where no edge leads on.
-/// There is none where a node lies on a cycle.
+/// Time and memory grow with the nodes and edges.
 pub fn ranks(alloc: Global, graph: &Graph) -> Result<Vec<u32>, RankFault>
     requires { IsSound graph.now }
     ensures exact { IfOk result (λ ranks. RanksExactly graph.now ranks.items) }
@@ -38,7 +38,7 @@ pub fn ranks(alloc: Global, graph: &Graph) -> Result<Vec<u32>, RankFault>
     let turned = reversed(alloc, graph)?;
     let ranks = peel(alloc, graph, &turned)?;
     if has_zero(&ranks) {
-        let node = first_marked(&on_cycle(alloc, graph)?);
+        let node = first_marked(&marks_on_cycle(alloc, graph, &turned)?);
         return Err(RankFault::Cyclic { node });
     }
     Ok(ranks)

@@ -1,11 +1,9 @@
-use Rattle.std.proofs.Common.{◌≡◌, ◌+◌, ◌-◌, ◌<◌, ◌≤◌, ◌⊎◌, ◌++◌, ◌∷◌, [], ℕ, List, Bool, true, false, All, Contains, length, get_or, set, take, refl, sym, ap, ◌∙◌, subst, ⊎_elim, arith}
+use Rattle.std.proofs.Common.{◌-◌, ◌<◌, ◌∷◌, [], ℕ, List, Contains, length, get_or, take, refl, sym, ap, subst, arith}
 use Rattle.std.proofs.lemmas.List.{get_or_read}
 use Rattle.std.proofs.lemmas.List.Elements.{Contains-get_or}
-use Rattle.dg_num.specs.Graph.{node_count, successors, HasEdge, IsSound}
-use Rattle.dg_num.specs.Walks.{Leads, IsMarked}
 use Rattle.dg_num.proofs.Counts.{contained_at}
-use Rattle.dg_num.proofs.Marks.{marked_within, marks_none}
-use Rattle.dg_num.proofs.Numberings.{Finished, Numbering, Numbering-start, Numbering-look, Numbering-next, Numbering-all}
+use Rattle.dg_num.proofs.Marks.{marked_within}
+use Rattle.dg_num.proofs.Numberings.{Finished, Numbering-look, Numbering-next, Numbering-all}
 use Rattle.dg_num.proofs.Rows.{node_from_edge, HasEdge-back, HasEdge-reversed}
 use Rattle.dg_num.proofs.components.component_numbers.Goals as goal
 

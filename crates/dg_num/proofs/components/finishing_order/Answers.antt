@@ -1,9 +1,8 @@
-use Rattle.std.proofs.Common.{◌≡◌, ◌+◌, ◌-◌, ◌<◌, ◌≤◌, ◌⊎◌, ◌++◌, ◌∷◌, [], ℕ, List, Bool, true, false, All, Contains, length, get_or, set, refl, sym, ap, ◌∙◌, subst, ⊎_elim, arith}
-use Rattle.dg_num.specs.Counts.{count_of}
-use Rattle.dg_num.specs.Graph.{node_count, successors, HasEdge, IsSound}
-use Rattle.dg_num.specs.Walks.{Leads, IsMarked}
+use Rattle.std.proofs.Common.{◌≡◌, ◌-◌, ◌++◌, ◌∷◌, [], ℕ, List, get_or, sym, ◌∙◌, subst, arith}
+use Rattle.dg_num.specs.Graph.{successors}
+use Rattle.dg_num.specs.Walks.{IsMarked}
 use Rattle.dg_num.proofs.Counts.{contained_at}
-use Rattle.dg_num.proofs.Visits.{Visiting, Visiting-start, Visiting-top, Visiting-leads, Visiting-enter, Visiting-look, Visiting-finish, Visiting-each, Visiting-nodes}
+use Rattle.dg_num.proofs.Visits.{Visiting, Visiting-top, Visiting-leads, Visiting-enter, Visiting-look, Visiting-finish, Visiting-each, Visiting-nodes}
 use Rattle.dg_num.proofs.components.finishing_order.Goals as goal
 
 pub next_edge-requires-clause-node : goal.next_edge-requires-clause-node

@@ -15,7 +15,7 @@ first_marked-node-requires-clause-some c =
     let P : List ℕ → Type 0 = λ xs. (x : ℕ) × (x < length xs) × (get_or xs x 0 ≡ 0) in
     let zero = subst P c.deref.ensures.value (c.has_zero.ensures.exact.0 c.if-has_zero.true) in
     let cyclic = cycle_from_zero graph ranks c.requires c.in_ok-ranks.ensures.left zero.0 (omega (arith, zero.1, c.in_ok-ranks.ensures.len)) zero.2 in
-    let exact = c.in_ok-on_cycle.ensures.exact in
+    let exact = c.in_ok-marks_on_cycle.ensures.exact in
     let within = node_on_cycle graph cyclic.0 cyclic.1 in
     let Q : List Bool → Type 0 = λ xs. (x : ℕ) × (x < length xs) × IsMarked xs x in
     subst Q (sym c.deref-then-has_zero.ensures.value) (cyclic.0, omega (arith, within, exact.for_each_node), (exact.exact cyclic.0 within).1 cyclic.1)
@@ -24,8 +24,8 @@ pub returns-then-has_zero-clause-cause : goal.returns-then-has_zero-clause-cause
 returns-then-has_zero-clause-cause c = λ memory node.
     let graph = c.args.graph.now in
     let first = c.first_marked-node.result in
-    let exact = c.in_ok-on_cycle.ensures.exact in
-    let marks = c.in_ok-on_cycle.field-0.items in
+    let exact = c.in_ok-marks_on_cycle.ensures.exact in
+    let marks = c.in_ok-marks_on_cycle.field-0.items in
     let P : List Bool → Type 0 = λ xs. IsMarked xs first in
     let marked = subst P c.deref-then-has_zero.ensures.value c.first_marked-node.ensures.marked in
     let within : first < node_count graph = omega (arith, marked_within marks first marked, exact.for_each_node) in

@@ -1,7 +1,7 @@
-use Rattle.std.proofs.Common.{◌≡◌, ◌+◌, ◌<◌, ◌≤◌, ℕ, List, Contains, sym, subst, ⊎_elim, arith}
+use Rattle.std.proofs.Common.{◌≡◌, ◌<◌, ◌≤◌, ℕ, List, Contains, sym, subst, ⊎_elim, arith}
 use Rattle.std.proofs.lemmas.Bool.{cases_lt}
 use Rattle.std.proofs.lemmas.List.Elements.{All-contains}
-use Rattle.dg_num.specs.Graph.{node_count, successors, HasEdge, IsSound}
+use Rattle.dg_num.specs.Graph.{HasEdge}
 use Rattle.dg_num.proofs.Rows.{node_from_edge}
 use Rattle.dg_num.proofs.tests.is_sound.Goals as goal
 

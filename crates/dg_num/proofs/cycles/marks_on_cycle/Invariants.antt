@@ -1,6 +1,6 @@
 use Rattle.std.proofs.Common.{◌≡◌, ◌<◌, ◌↔◌, ℕ, vec_len}
 use Rattle.dg_num.specs.Walks.{IsMarked, IsOnCycle}
-use Rattle.dg_num.proofs.cycles.on_cycle.Given as goal
+use Rattle.dg_num.proofs.cycles.marks_on_cycle.Given as goal
 
 abbrev pub invariant-loop-node : goal.invariant-loop-node
 invariant-loop-node l = record {

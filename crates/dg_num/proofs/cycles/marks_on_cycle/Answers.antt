@@ -1,18 +1,18 @@
-use Rattle.std.proofs.Common.{◌≡◌, ◌+◌, ◌<◌, ◌≤◌, ◌↔◌, ◌++◌, ◌∷◌, [], length, ℕ, List, Bool, true, false, get_or, Contains, sym, ap, ◌∙◌, subst, arith}
+use Rattle.std.proofs.Common.{◌≡◌, ◌<◌, ◌≤◌, ◌↔◌, length, ℕ, List, true, get_or, Contains, sym, ap, ◌∙◌, subst, arith}
 use Rattle.std.proofs.lemmas.List.{get_or_read}
 use Rattle.std.proofs.lemmas.List.Elements.{Contains-get_or}
-use Rattle.dg_num.specs.Graph.{node_count, successors, HasEdge, IsSound}
+use Rattle.dg_num.specs.Graph.{node_count, HasEdge}
 use Rattle.dg_num.specs.Walks.{IsOnCycle}
 use Rattle.dg_num.proofs.Marks.{marks_exact-push}
 use Rattle.dg_num.proofs.WalkLaws.{kept_along, IsOnCycle-from_leads, first_on_cycle}
-use Rattle.dg_num.proofs.cycles.on_cycle.Goals as goal
+use Rattle.dg_num.proofs.cycles.marks_on_cycle.Goals as goal
 
 pub has_number-requires : goal.has_number-requires
 has_number-requires c = λ k d h.
     let row = c.row.result.now in
     let P : List ℕ → Type 0 = λ xs. Contains xs (get_or row k d) in
     let edge = subst P c.row.ensures.exact (Contains-get_or row k d h) in
-    omega (arith, c.requires.in_range c.loop-node.node (get_or row k d) edge, c.in_ok-numbers.ensures.len, ap length c.deref.ensures.value)
+    omega (arith, c.requires.graph.in_range c.loop-node.node (get_or row k d) edge, c.in_ok-numbers.ensures.len, ap length c.deref.ensures.value)
 
 pub loop-node-preserved : goal.loop-node-preserved
 loop-node-preserved c =
@@ -31,7 +31,7 @@ loop-node-preserved c =
           let P : List ℕ → Type 0 = λ xs. Contains xs after in
           let edge : HasEdge graph node after = subst P c.row.ensures.exact found.1 in
           let same : get_or numbers after 0 ≡ get_or numbers node 0 = ap (λ xs. get_or xs after 0) (sym given) ∙ found.2 ∙ read in
-          IsOnCycle-from_leads graph node after edge (c.in_ok-numbers.ensures.same after node (c.requires.in_range node after edge) within same),
+          IsOnCycle-from_leads graph node after edge (c.in_ok-numbers.ensures.same after node (c.requires.graph.in_range node after edge) within same),
       λ cycle.
           let first = first_on_cycle graph node cycle in
           let after = first.0 in
