@@ -5,7 +5,7 @@ use Rattle.std.proofs.lemmas.List.Elements.{All-contains, Contains-append_left}
 use Rattle.dg_num.specs.declared.graph.Graph.{Graph}
 use Rattle.dg_num.specs.Counts.{count_of, IsReversed}
 use Rattle.dg_num.specs.Graph.{node_count, successors, HasEdge, IsSound}
-use Rattle.dg_num.specs.Walks.{Walk, Leads, IsMarked}
+use Rattle.dg_num.specs.Walks.{Walk, Leads, IsTrueAt}
 use Rattle.dg_num.proofs.Counts.{contained_from_count_of, one_place, place_in_front, contained_in_front, place_of, contained_at}
 use Rattle.dg_num.proofs.Marks.{marked_within}
 use Rattle.dg_num.proofs.Rows.{HasEdge-back}
@@ -62,7 +62,7 @@ pub record Numbering (graph turned : Graph) (order old : List ℕ) (marks : List
   pub old_is : take start queue ≡ old
   pub for_marks : length marks ≡ node_count graph
   pub for_numbers : length numbers ≡ node_count graph
-  pub marked : (v : ℕ) → IsMarked marks v ↔ Contains queue v
+  pub marked : (v : ℕ) → IsTrueAt marks v ↔ Contains queue v
   pub start_le : start ≤ next
   pub next_le : next ≤ length queue
   pub root_le : root ≤ length order
@@ -120,14 +120,14 @@ old_or_new start old queue is v has =
     (λ (le : start ≤ place.0). inr (place.0, le, place.1, place.2))
     (cases_lt place.0 start)
 
-pub Numbering-look : (graph turned : Graph) (order old : List ℕ) (marks marks' : List Bool) (queue queue' added numbers numbers' row : List ℕ) (next start root node : ℕ) → IsReversed graph turned → Numbering graph turned order old marks queue numbers next start root → next < length queue → get_or queue next 0 ≡ node → numbers' ≡ set numbers node start → row ≡ successors turned node → length marks' ≡ length marks → ((v : ℕ) → IsMarked marks' v ↔ Contains queue' v) → queue' ≡ queue ++ added → All (Contains row) added → All (λ v. IsMarked marks v → ⊥) added → All (IsMarked marks') row → Numbering graph turned order (take start queue') marks' queue' numbers' (next + 1) start root
+pub Numbering-look : (graph turned : Graph) (order old : List ℕ) (marks marks' : List Bool) (queue queue' added numbers numbers' row : List ℕ) (next start root node : ℕ) → IsReversed graph turned → Numbering graph turned order old marks queue numbers next start root → next < length queue → get_or queue next 0 ≡ node → numbers' ≡ set numbers node start → row ≡ successors turned node → length marks' ≡ length marks → ((v : ℕ) → IsTrueAt marks' v ↔ Contains queue' v) → queue' ≡ queue ++ added → All (Contains row) added → All (λ v. IsTrueAt marks v → ⊥) added → All (IsTrueAt marks') row → Numbering graph turned order (take start queue') marks' queue' numbers' (next + 1) start root
 Numbering-look graph turned order old marks marks' queue queue' added numbers numbers' row next start root node r n lt node-is numbers-is row-is len marked' queue-is among unmarked all =
     let q = length queue in
     let long : length queue' ≡ q + length added = ap length queue-is ∙ length-append queue added in
     let front : (k : ℕ) → k < q → get_or queue' k 0 ≡ get_or queue k 0 = λ k h. ap (λ xs. get_or xs k 0) queue-is ∙ get_or_append_left queue added 0 k h in
     let new : (k : ℕ) → q ≤ k → k < length queue' → Contains added (get_or queue' k 0) = λ k le h. contained_at added (k - q) (get_or queue' k 0) (omega (arith, le, h, long)) (sym (ap (λ xs. get_or xs k 0) queue-is ∙ get_or-append_right queue added q k 0 refl le)) in
     let grows : (v : ℕ) → Contains queue v → Contains queue' v = λ v has. let P : List ℕ → Type 0 = λ xs. Contains xs v in subst P (sym queue-is) (Contains-append_left queue added v has) in
-    let node-marked : IsMarked marks node = (n.marked node).1 (contained_at queue next node lt node-is) in
+    let node-marked : IsTrueAt marks node = (n.marked node).1 (contained_at queue next node lt node-is) in
     let in-numbers : node < length numbers = omega (arith, marked_within marks node node-marked, n.for_marks, n.for_numbers) in
     let node-fresh : Contains old node → ⊥ = let P : ℕ → Type 0 = λ x. Contains old x → ⊥ in subst P node-is (n.fresh next n.start_le lt) in
     let kept : (v : ℕ) → Contains old v → get_or numbers' v 0 ≡ get_or numbers v 0 = λ v has. ap (λ xs. get_or xs v 0) numbers-is ∙ get_or-set_other numbers node v start 0 (λ (e : v ≡ node). let P : ℕ → Type 0 = λ x. Contains old x in node-fresh (subst P e has)) in
@@ -146,7 +146,7 @@ Numbering-look graph turned order old marks marks' queue queue' added numbers nu
       fresh = λ k le h has.
           ⊎_elim
           (λ (before : k < q). let P : ℕ → Type 0 = λ x. Contains old x in n.fresh k le before (subst P (front k before) has))
-          (λ (past : q ≤ k). All-contains (λ v. IsMarked marks v → ⊥) added (get_or queue' k 0) unmarked (new k past h) ((n.marked (get_or queue' k 0)).1 (old_in_queue start old queue n.old_is (get_or queue' k 0) has)))
+          (λ (past : q ≤ k). All-contains (λ v. IsTrueAt marks v → ⊥) added (get_or queue' k 0) unmarked (new k past h) ((n.marked (get_or queue' k 0)).1 (old_in_queue start old queue n.old_is (get_or queue' k 0) has)))
           (cases_lt k q);
       behind = n.behind;
       rooted = λ h. grows (get_or order root 0) (n.rooted h);
@@ -158,7 +158,7 @@ Numbering-look graph turned order old marks marks' queue queue' added numbers nu
           let in-row : Contains row v = All-contains (Contains row) added v among (new k past h) in
           let P : List ℕ → Type 0 = λ xs. Contains xs v in
           let edge : HasEdge graph v node = HasEdge-back graph turned r v node (subst P row-is in-row) in
-          let v-fresh : Contains old v → ⊥ = λ has. All-contains (λ v. IsMarked marks v → ⊥) added v unmarked (new k past h) ((n.marked v).1 (old_in_queue start old queue n.old_is v has)) in
+          let v-fresh : Contains old v → ⊥ = λ has. All-contains (λ v. IsTrueAt marks v → ⊥) added v unmarked (new k past h) ((n.marked v).1 (old_in_queue start old queue n.old_is v has)) in
           let walk = n.current next n.start_le lt in
           let F : ℕ → Type 0 = λ x. FreshWalk graph old walk.0 x (get_or order root 0) in
           (suc walk.0, (v-fresh, (node, edge, subst F node-is walk.1))))
@@ -171,7 +171,7 @@ Numbering-look graph turned order old marks marks' queue queue' added numbers nu
           let ek : k ≡ next = omega (arith, at, h) in
           let is-node : get_or queue' k 0 ≡ node = front k (omega (arith, ek, lt)) ∙ ap (λ x. get_or queue x 0) ek ∙ node-is in
           let P : List ℕ → Type 0 = λ xs. Contains xs a in
-          (marked' a).0 (All-contains (IsMarked marks') row a all (subst P (sym row-is) (subst E is-node edge))))
+          (marked' a).0 (All-contains (IsTrueAt marks') row a all (subst P (sym row-is) (subst E is-node edge))))
           (cases_lt k next);
       closed = n.closed;
       below = λ a has. omega (arith, n.below a has, kept a has);
@@ -237,7 +237,7 @@ Numbered-component graph turned order old marks queue numbers next start root so
           (place a ha);
     }
 
-pub Numbering-next : (graph turned : Graph) (order old : List ℕ) (marks marks' : List Bool) (queue queue' added numbers row : List ℕ) (next start root root' start' : ℕ) → IsSound graph → Finished graph order → Numbering graph turned order old marks queue numbers next start root → length queue ≤ next → root' + 1 ≡ root → start' ≡ length queue → row ≡ get_or order root' 0 ∷ [] → length marks' ≡ length marks → ((v : ℕ) → IsMarked marks' v ↔ Contains queue' v) → queue' ≡ queue ++ added → All (Contains row) added → All (λ v. IsMarked marks v → ⊥) added → All (IsMarked marks') row → Numbering graph turned order (take start' queue') marks' queue' numbers next start' root'
+pub Numbering-next : (graph turned : Graph) (order old : List ℕ) (marks marks' : List Bool) (queue queue' added numbers row : List ℕ) (next start root root' start' : ℕ) → IsSound graph → Finished graph order → Numbering graph turned order old marks queue numbers next start root → length queue ≤ next → root' + 1 ≡ root → start' ≡ length queue → row ≡ get_or order root' 0 ∷ [] → length marks' ≡ length marks → ((v : ℕ) → IsTrueAt marks' v ↔ Contains queue' v) → queue' ≡ queue ++ added → All (Contains row) added → All (λ v. IsTrueAt marks v → ⊥) added → All (IsTrueAt marks') row → Numbering graph turned order (take start' queue') marks' queue' numbers next start' root'
 Numbering-next graph turned order old marks marks' queue queue' added numbers row next start root root' start' sound f n done root-is start-is row-is len marked' queue-is among unmarked all =
     let whole = Numbered-component graph turned order old marks queue numbers next start root sound f n done in
     let q = length queue in
@@ -246,7 +246,7 @@ Numbering-next graph turned order old marks marks' queue queue' added numbers ro
     let front : (k : ℕ) → k < q → get_or queue' k 0 ≡ get_or queue k 0 = λ k h. ap (λ xs. get_or xs k 0) queue-is ∙ get_or_append_left queue added 0 k h in
     let new : (k : ℕ) → q ≤ k → k < length queue' → Contains added (get_or queue' k 0) = λ k le h. contained_at added (k - q) (get_or queue' k 0) (omega (arith, le, h, long)) (sym (ap (λ xs. get_or xs k 0) queue-is ∙ get_or-append_right queue added q k 0 refl le)) in
     let grows : (v : ℕ) → Contains queue v → Contains queue' v = λ v has. let P : List ℕ → Type 0 = λ xs. Contains xs v in subst P (sym queue-is) (Contains-append_left queue added v has) in
-    let fresh : (v : ℕ) → Contains added v → Contains queue v → ⊥ = λ v a has. All-contains (λ v. IsMarked marks v → ⊥) added v unmarked a ((n.marked v).1 has) in
+    let fresh : (v : ℕ) → Contains added v → Contains queue v → ⊥ = λ v a has. All-contains (λ v. IsTrueAt marks v → ⊥) added v unmarked a ((n.marked v).1 has) in
     let old-is : take start' queue' ≡ queue = ap (take start') queue-is ∙ take_at queue added start' (sym start-is) in
     let in-queue : (v : ℕ) → Contains old v → Contains queue v = old_in_queue start old queue n.old_is in
     let N : List ℕ → Type 0 = λ os. Numbering graph turned order os marks' queue' numbers next start' root' in
@@ -266,7 +266,7 @@ Numbering-next graph turned order old marks marks' queue queue' added numbers ro
           (λ (past : root < k). in-queue (get_or order k 0) (n.behind k past h))
           (λ (at : k ≤ root). let ek : root ≡ k = omega (arith, at, lt, root-is) in subst P ek (n.rooted (omega (arith, ek, h))))
           (cases_lt root k);
-      rooted = λ h. (marked' r).0 (All-contains (IsMarked marks') row r all (let P : List ℕ → Type 0 = λ xs. Contains xs r in subst P (sym row-is) (0, omega arith, refl)));
+      rooted = λ h. (marked' r).0 (All-contains (IsTrueAt marks') row r all (let P : List ℕ → Type 0 = λ xs. Contains xs r in subst P (sym row-is) (0, omega arith, refl)));
       current = λ k le h.
           let a = new k (omega (arith, le, start-is)) h in
           let v = get_or queue' k 0 in

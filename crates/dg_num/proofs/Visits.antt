@@ -6,9 +6,9 @@ use Rattle.std.proofs.lemmas.List.Sums.{count_by-le-length}
 use Rattle.dg_num.specs.declared.graph.Graph.{Graph}
 use Rattle.dg_num.specs.Counts.{count_of}
 use Rattle.dg_num.specs.Graph.{node_count, successors, HasEdge}
-use Rattle.dg_num.specs.Walks.{Leads, IsMarked}
+use Rattle.dg_num.specs.Walks.{Leads, IsTrueAt}
 use Rattle.dg_num.proofs.Counts.{one_if, count_of-push_same, count_of-push_other, count_of_contained, contained_from_count_of, place_of}
-use Rattle.dg_num.proofs.Marks.{IsMarked-set, marked_within}
+use Rattle.dg_num.proofs.Marks.{IsTrueAt-set, marked_within}
 use Rattle.dg_num.proofs.WalkLaws.{Leads-trans, Leads-edge}
 
 -- a search in depth: the nodes of the path lead to one another in turn, and those of the order are done
@@ -16,7 +16,7 @@ pub record Visiting (graph : Graph) (seen : List Bool) (left path order : List �
   pub for_seen : length seen ≡ node_count graph
   pub for_left : length left ≡ node_count graph
   pub bounded : (v : ℕ) → get_or left v 0 ≤ length (successors graph v)
-  pub looked : (v k : ℕ) → get_or left v 0 ≤ k → k < length (successors graph v) → IsMarked seen (get_or (successors graph v) k 0)
+  pub looked : (v k : ℕ) → get_or left v 0 ≤ k → k < length (successors graph v) → IsTrueAt seen (get_or (successors graph v) k 0)
   pub counts : (v : ℕ) → count_of order v + count_of path v ≡ one_if (get_or seen v false)
   pub done : (v : ℕ) → Contains order v → get_or left v 0 ≡ 0
   pub joined : (i j : ℕ) → i ≤ j → j < length path → Leads graph (get_or path i 0) (get_or path j 0)
@@ -51,7 +51,7 @@ visiting_push graph seen left path order node s in-graph leads none =
       for_seen = length-set seen node true ∙ s.for_seen;
       for_left = s.for_left;
       bounded = s.bounded;
-      looked = λ v k le h. IsMarked-set seen node (get_or (successors graph v) k 0) lt (s.looked v k le h);
+      looked = λ v k le h. IsTrueAt-set seen node (get_or (successors graph v) k 0) lt (s.looked v k le h);
       counts = λ v.
           ⊎_elim
           (λ (e : node ≡ v). let P : ℕ → Type 0 = λ x. count_of order x + count_of (path ++ node ∷ []) x ≡ one_if (get_or (set seen node true) x false) in subst P e (omega (arith, s.counts node, ap one_if none, count_of-push_same path node node refl, ap one_if (get_or-set_same seen node true false lt))))
@@ -76,17 +76,17 @@ visiting_push graph seen left path order node s in-graph leads none =
     }
 
 -- a node is put at the end of the path, if it wasn't seen before
-pub Visiting-enter : (graph : Graph) (seen seen' : List Bool) (left path path' order : List ℕ) (node : ℕ) → Visiting graph seen left path order → node < node_count graph → ((i : ℕ) → i < length path → Leads graph (get_or path i 0) node) → ((get_or seen node false ≡ true) × (seen' ≡ seen) × (path' ≡ path)) ⊎ ((get_or seen node false ≡ false) × (seen' ≡ set seen node true) × (path' ≡ path ++ node ∷ [])) → Visiting graph seen' left path' order × IsMarked seen' node × ((v : ℕ) → IsMarked seen v → IsMarked seen' v) × (length path' ≤ length path + 1)
+pub Visiting-enter : (graph : Graph) (seen seen' : List Bool) (left path path' order : List ℕ) (node : ℕ) → Visiting graph seen left path order → node < node_count graph → ((i : ℕ) → i < length path → Leads graph (get_or path i 0) node) → ((get_or seen node false ≡ true) × (seen' ≡ seen) × (path' ≡ path)) ⊎ ((get_or seen node false ≡ false) × (seen' ≡ set seen node true) × (path' ≡ path ++ node ∷ [])) → Visiting graph seen' left path' order × IsTrueAt seen' node × ((v : ℕ) → IsTrueAt seen v → IsTrueAt seen' v) × (length path' ≤ length path + 1)
 Visiting-enter graph seen seen' left path path' order node s in-graph leads cases =
     let lt : node < length seen = omega (arith, in-graph, s.for_seen) in
-    let P : List Bool → List ℕ → Type 0 = λ ss ps. Visiting graph ss left ps order × IsMarked ss node × ((v : ℕ) → IsMarked seen v → IsMarked ss v) × (length ps ≤ length path + 1) in
+    let P : List Bool → List ℕ → Type 0 = λ ss ps. Visiting graph ss left ps order × IsTrueAt ss node × ((v : ℕ) → IsTrueAt seen v → IsTrueAt ss v) × (length ps ≤ length path + 1) in
     ⊎_elim
     (λ (old : (get_or seen node false ≡ true) × (seen' ≡ seen) × (path' ≡ path)). subst (λ ss. P ss path') (sym old.1) (subst (λ ps. P seen ps) (sym old.2) (s, old.0, λ v h. h, omega arith)))
-    (λ (new : (get_or seen node false ≡ false) × (seen' ≡ set seen node true) × (path' ≡ path ++ node ∷ [])). subst (λ ss. P ss path') (sym new.1) (subst (λ ps. P (set seen node true) ps) (sym new.2) (visiting_push graph seen left path order node s in-graph leads new.0, get_or-set_same seen node true false lt, λ v h. IsMarked-set seen node v lt h, omega (arith, length_push path node))))
+    (λ (new : (get_or seen node false ≡ false) × (seen' ≡ set seen node true) × (path' ≡ path ++ node ∷ [])). subst (λ ss. P ss path') (sym new.1) (subst (λ ps. P (set seen node true) ps) (sym new.2) (visiting_push graph seen left path order node s in-graph leads new.0, get_or-set_same seen node true false lt, λ v h. IsTrueAt-set seen node v lt h, omega (arith, length_push path node))))
     cases
 
 -- the last edge that was left of a node has been looked at
-pub Visiting-look : (graph : Graph) (seen : List Bool) (left left' path order : List ℕ) (node : ℕ) → Visiting graph seen left path order → node < node_count graph → 1 ≤ get_or left node 0 → left' ≡ set left node (get_or left node 0 - 1) → IsMarked seen (get_or (successors graph node) (get_or left node 0 - 1) 0) → Visiting graph seen left' path order
+pub Visiting-look : (graph : Graph) (seen : List Bool) (left left' path order : List ℕ) (node : ℕ) → Visiting graph seen left path order → node < node_count graph → 1 ≤ get_or left node 0 → left' ≡ set left node (get_or left node 0 - 1) → IsTrueAt seen (get_or (successors graph node) (get_or left node 0 - 1) 0) → Visiting graph seen left' path order
 Visiting-look graph seen left left' path order node s in-graph some is marked =
     let l = get_or left node 0 in
     let lt : node < length left = omega (arith, in-graph, s.for_left) in
@@ -105,7 +105,7 @@ Visiting-look graph seen left left' path order node s in-graph some is marked =
           ⊎_elim
           (λ (less : k < l).
           let ek : l - 1 ≡ k = omega (arith, less, le, at v e, some) in
-          let Q : ℕ → Type 0 = λ x. IsMarked seen x in
+          let Q : ℕ → Type 0 = λ x. IsTrueAt seen x in
           subst Q (ap (λ x. get_or (successors graph x) (l - 1) 0) e ∙ ap (λ x. get_or (successors graph v) x 0) ek) marked)
           (λ (more : l ≤ k). s.looked v k (omega (arith, same, more)) h)
           (cases_lt k l))
@@ -161,8 +161,8 @@ Visiting-finish graph seen left path rest order order' node s path-is none order
           let u = get_or whole i 0 in
           let place = place_of (successors graph u) after edge in
           let zero' = done u (Contains-get_or whole i 0 (omega (arith, le, h))) in
-          let M : ℕ → Type 0 = λ x. IsMarked seen x in
-          let marked : IsMarked seen after = subst M place.2 (s.looked u place.0 (omega (arith, zero')) place.1) in
+          let M : ℕ → Type 0 = λ x. IsTrueAt seen x in
+          let marked : IsTrueAt seen after = subst M place.2 (s.looked u place.0 (omega (arith, zero')) place.1) in
           let T : List ℕ → Type 0 = λ xs. Contains xs after in
           ⊎_elim
           (λ (ordered : 0 < count_of order after). inl (subst T (sym (take_all (k + 1) whole (omega (arith, ek, long)))) (Contains-append_left order (node ∷ []) after (contained_from_count_of order after (omega arith)))))
@@ -178,7 +178,7 @@ Visiting-finish graph seen left path rest order order' node s path-is none order
     subst P (sym order-is) made
 
 -- once the path is empty and all nodes are seen, each node is done once
-pub Visiting-each : (graph : Graph) (seen : List Bool) (left path order : List ℕ) → Visiting graph seen left path order → length path ≡ 0 → ((v : ℕ) → v < node_count graph → IsMarked seen v) → (v : ℕ) → v < node_count graph → count_of order v ≡ 1
+pub Visiting-each : (graph : Graph) (seen : List Bool) (left path order : List ℕ) → Visiting graph seen left path order → length path ≡ 0 → ((v : ℕ) → v < node_count graph → IsTrueAt seen v) → (v : ℕ) → v < node_count graph → count_of order v ≡ 1
 Visiting-each graph seen left path order s empty all v lt = omega (arith, s.counts v, ap one_if (all v lt), count_by-le-length (λ other. eqb other v) path, empty)
 
 pub Visiting-nodes : (graph : Graph) (seen : List Bool) (left path order : List ℕ) → Visiting graph seen left path order → All (λ node. node < node_count graph) order

@@ -29,14 +29,14 @@ pub record IsRank (graph : Graph) (node rank : ℕ) : Type 0 where
   pub walk : (edges : ℕ) × (last : ℕ) × Walk graph edges node last × (rank ≡ edges + 1)
   pub longest : (edges last : ℕ) → Walk graph edges node last → edges + 1 ≤ rank
 
--- the mark of the node is set
-abbrev pub IsMarked : List Bool → ℕ → Type 0
-IsMarked marks node = IsTrue (slice_index_or marks node false)
+-- the entry of the node is there, and true
+abbrev pub IsTrueAt : List Bool → ℕ → Type 0
+IsTrueAt entries node = IsTrue (slice_index_or entries node false)
 
--- a mark for each node, and those that are set are exactly those of the nodes with the property
-pub record MarksExactly (graph : Graph) (P : ℕ → Type 0) (marks : List Bool) : Type 0 where
-  pub for_each_node : length marks ≡ node_count graph
-  pub exact : (node : ℕ) → node < node_count graph → (IsMarked marks node ↔ P node)
+-- an entry for each node, which is true exactly if the node has the property
+pub record TellsExactly (graph : Graph) (P : ℕ → Type 0) (entries : List Bool) : Type 0 where
+  pub for_each_node : length entries ≡ node_count graph
+  pub exact : (node : ℕ) → node < node_count graph → (IsTrueAt entries node ↔ P node)
 
 -- a number for each node, which is its rank
 pub record RanksExactly (graph : Graph) (ranks : List ℕ) : Type 0 where

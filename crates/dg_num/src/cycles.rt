@@ -1,7 +1,7 @@
 ghost use Rattle.std.specs.Prelude.{◌≡◌, ◌<◌, ◌↔◌, ℕ, All, Contains, IfOk, IsTrue, length, slice_index};
 ghost use Rattle.dg_num.specs.Counts.{IsReversed};
 ghost use Rattle.dg_num.specs.Graph.{IsSound};
-ghost use Rattle.dg_num.specs.Walks.{IsOnCycle, MarksExactly};
+ghost use Rattle.dg_num.specs.Walks.{IsOnCycle, TellsExactly};
 
 use crate::components::component_numbers;
 use crate::graph::{Graph, reversed};
@@ -12,7 +12,7 @@ use std::alloc::Global;
 /// Time and memory grow with the nodes and edges.
 pub fn on_cycle(alloc: Global, graph: &Graph) -> Result<Vec<bool>, NoMemory>
     requires { IsSound graph.now }
-    ensures exact { IfOk result (λ marks. MarksExactly graph.now (IsOnCycle graph.now) marks.items) }
+    ensures exact { IfOk result (λ marks. TellsExactly graph.now (IsOnCycle graph.now) marks.items) }
 {
     marks_on_cycle(alloc, graph, &reversed(alloc, graph)?)
 }
@@ -25,7 +25,7 @@ pub(crate) fn marks_on_cycle(
 ) -> Result<Vec<bool>, NoMemory>
     requires graph { IsSound graph.now }
     requires turned { IsReversed graph.now turned.now }
-    ensures exact { IfOk result (λ marks. MarksExactly graph.now (IsOnCycle graph.now) marks.items) }
+    ensures exact { IfOk result (λ marks. TellsExactly graph.now (IsOnCycle graph.now) marks.items) }
 {
     let numbers = component_numbers(alloc, graph, turned)?;
     let mut marks = Vec::with_capacity(alloc, graph.next.len())?;

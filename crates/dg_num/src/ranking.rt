@@ -1,6 +1,6 @@
 ghost use Rattle.std.specs.Prelude.{◌≡◌, ◌≢◌, ◌^◌, ◌<◌, ◌≤◌, ◌↔◌, ℕ, IfOk, IsTrue, SomeIndex, length, slice_index};
 ghost use Rattle.dg_num.specs.Graph.{node_count, IsSound};
-ghost use Rattle.dg_num.specs.Walks.{IsLeastOnCycle, IsMarked, RanksExactly};
+ghost use Rattle.dg_num.specs.Walks.{IsLeastOnCycle, IsTrueAt, RanksExactly};
 
 use crate::cycles::marks_on_cycle;
 use crate::graph::{Graph, reversed};
@@ -54,9 +54,9 @@ fn has_zero(ranks: &[u32]) -> bool
 /// The least node that is marked.
 fn first_marked(marks: &[bool]) -> u32
     requires small { length marks.now < 2 ^ 32 }
-    requires some { SomeIndex marks.now (IsMarked marks.now) }
-    ensures marked { IsMarked marks.now result }
-    ensures least { (node : ℕ) → IsMarked marks.now node → result ≤ node }
+    requires some { SomeIndex marks.now (IsTrueAt marks.now) }
+    ensures marked { IsTrueAt marks.now result }
+    ensures least { (node : ℕ) → IsTrueAt marks.now node → result ≤ node }
 {
     let mut node = 0;
     while !marks[node as usize] {

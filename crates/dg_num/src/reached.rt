@@ -1,6 +1,6 @@
 ghost use Rattle.std.specs.Prelude.{◌≡◌, ◌+◌, ◌<◌, ◌↔◌, ◌++◌, ℕ, List, not, All, Contains, IfOk, OnOk, count_by, vec_len};
 ghost use Rattle.dg_num.specs.Graph.{node_count, IsSound};
-ghost use Rattle.dg_num.specs.Walks.{IsMarked, IsReached, MarksExactly};
+ghost use Rattle.dg_num.specs.Walks.{IsTrueAt, IsReached, TellsExactly};
 
 use crate::graph::Graph;
 use crate::memory::NoMemory;
@@ -11,7 +11,7 @@ use std::alloc::Global;
 pub fn reach(alloc: Global, graph: &Graph, from: &[u32]) -> Result<Vec<bool>, NoMemory>
     requires graph { IsSound graph.now }
     requires from { All (λ node. node < node_count graph.now) from.now }
-    ensures exact { IfOk result (λ marks. MarksExactly graph.now (IsReached graph.now from.now) marks.items) }
+    ensures exact { IfOk result (λ marks. TellsExactly graph.now (IsReached graph.now from.now) marks.items) }
 {
     let mut marks = vec![in alloc; false; graph.next.len()]?;
     let mut queue = Vec::new(alloc);
@@ -33,12 +33,12 @@ pub(crate) fn mark_new(
     row: &[u32],
 ) -> Result<(), NoMemory>
     requires row { All (λ node. node < vec_len marks.old) row.now }
-    requires marked { (node : ℕ) → IsMarked marks.old.items node ↔ Contains queue.old.items node }
+    requires marked { (node : ℕ) → IsTrueAt marks.old.items node ↔ Contains queue.old.items node }
     ensures len { vec_len marks.new ≡ vec_len marks.old }
-    ensures marked { OnOk result ((node : ℕ) → IsMarked marks.new.items node ↔ Contains queue.new.items node) }
+    ensures marked { OnOk result ((node : ℕ) → IsTrueAt marks.new.items node ↔ Contains queue.new.items node) }
     ensures added { OnOk result ((added : List ℕ) × (queue.new.items ≡ queue.old.items ++ added)
-        × All (Contains row.now) added × All (λ node. IsMarked marks.old.items node → ⊥) added) }
-    ensures row { OnOk result (All (IsMarked marks.new.items) row.now) }
+        × All (Contains row.now) added × All (λ node. IsTrueAt marks.old.items node → ⊥) added) }
+    ensures row { OnOk result (All (IsTrueAt marks.new.items) row.now) }
     ensures count { OnOk result (count_by not marks.new.items + vec_len queue.new
         ≡ count_by not marks.old.items + vec_len queue.old) }
 {

@@ -1,6 +1,6 @@
 use Rattle.std.proofs.Common.{◌≡◌, ◌-◌, ◌++◌, ◌∷◌, [], ℕ, List, get_or, sym, ◌∙◌, subst, arith}
 use Rattle.dg_num.specs.Graph.{successors}
-use Rattle.dg_num.specs.Walks.{IsMarked}
+use Rattle.dg_num.specs.Walks.{IsTrueAt}
 use Rattle.dg_num.proofs.Counts.{contained_at}
 use Rattle.dg_num.proofs.Visits.{Visiting, Visiting-top, Visiting-leads, Visiting-enter, Visiting-look, Visiting-finish, Visiting-each, Visiting-nodes}
 use Rattle.dg_num.proofs.components.finishing_order.Goals as goal
@@ -35,7 +35,7 @@ loop-node-preserved-in-Continue-branch-5 c =
     let s = subst V same c.loop-node.invariant.visiting in
     let edge = contained_at (successors graph node) (l - 1) after (omega (arith, s.bounded node, step.1)) (sym step.2) in
     let entered = Visiting-enter graph seen c.enter.new.seen.items left path c.enter.new.path.items order after s (c.requires.in_range node after edge) (Visiting-leads graph seen left path rest order node after s path-is edge) c.in_ok-enter.ensures.cases in
-    let M : ℕ → Type 0 = λ x. IsMarked c.enter.new.seen.items x in
+    let M : ℕ → Type 0 = λ x. IsTrueAt c.enter.new.seen.items x in
     record {
       visiting = Visiting-look graph c.enter.new.seen.items left c.next_edge.new.left.items c.enter.new.path.items order node entered.0 (Visiting-top graph seen left path rest order node s path-is) step.1 step.0 (subst M step.2 entered.1);
       roots = λ v lt. entered.2 v (c.loop-node.invariant.roots v lt);

@@ -1,6 +1,6 @@
 use Rattle.std.proofs.Common.{◌≡◌, ◌<◌, ◌+◌, List, ℕ, false, length, get_or, take, All, subst, sym, ap, ◌∙◌, arith}
 use Rattle.std.proofs.lemmas.List.{get_or_read, take_all}
-use Rattle.dg_num.specs.Walks.{IsMarked}
+use Rattle.dg_num.specs.Walks.{IsTrueAt}
 use Rattle.dg_num.proofs.Marks.{Marking, Marking-none, Marking-push, Marking-skip}
 use Rattle.dg_num.proofs.reached.mark_new.Goals as goal
 use Rattle.dg_num.proofs.reached.mark_new.Goals.{then-not-index+in_ok-push, else-not-index}
@@ -20,5 +20,5 @@ loop-node-preserved c =
 pub returns-clause-row : goal.returns-clause-row
 returns-clause-row c =
     let all : take c.loop-node.node-index c.args.row.now ≡ c.args.row.now = take_all c.loop-node.node-index c.args.row.now c.loop-node-test.false in
-    let P : List ℕ → Type 0 = λ xs. All (IsMarked c.loop-node.marks.items) xs in
+    let P : List ℕ → Type 0 = λ xs. All (IsTrueAt c.loop-node.marks.items) xs in
     subst P all c.loop-node.invariant.all
