@@ -1,4 +1,4 @@
-ghost use Rattle.std.specs.Prelude.{◌≡◌, ◌+◌, ◌-◌, ◌<◌, ◌≤◌, ◌⊎◌, ◌++◌, ◌∷◌, [], ℕ, if◌then◌else◌, All, Contains, IfOk, IfSome, MatchOption, OnOk, false, true, length, slice_index, slice_index_or, slice_set, take, vec_len};
+ghost use Rattle.std.specs.Prelude.{◌≡◌, ◌+◌, ◌-◌, ◌<◌, ◌≤◌, ◌⊎◌, ◌++◌, ◌∷◌, [], ℕ, All, Contains, IfOk, MatchOption, OnOk, false, true, length, slice_index, slice_index_or, slice_set, take, vec_len};
 ghost use Rattle.dg_num.specs.Counts.{count_of, IsReversed};
 ghost use Rattle.dg_num.specs.Graph.{node_count, successors, HasEdge, IsSound};
 ghost use Rattle.dg_num.specs.Walks.{Leads};
@@ -9,9 +9,10 @@ use crate::peeling::row_lengths;
 use crate::reached::mark_new;
 use std::alloc::Global;
 
-/// Numbers the strongly connected components, so that two nodes have one number exactly where walks lead from each to
-/// the other, and no edge leads to a lower number. `turned` is the graph with its edges turned round. Time and memory
-/// grow with the nodes and edges.
+/// Numbers the strongly connected components, so that two nodes have one number exactly where walks lead from
+/// each to the other, and no edge leads to a lower number. `turned` is the graph with its edges turned round.
+/// A search in depth puts the nodes into an order, and searches from them in that order, from its end, against
+/// the edges find the components. Time and memory grow with the nodes and edges.
 pub(crate) fn component_numbers(
     alloc: Global,
     graph: &Graph,
@@ -22,7 +23,8 @@ pub(crate) fn component_numbers(
     ensures len { IfOk result (λ numbers. vec_len numbers ≡ node_count graph.now) }
     ensures edges { IfOk result (λ numbers. (a b : ℕ) → HasEdge graph.now a b
         → slice_index numbers.items a ≤ slice_index numbers.items b) }
-    ensures same { IfOk result (λ numbers. (a b : ℕ) → a < node_count graph.now → b < node_count graph.now
+    ensures same { IfOk result (λ numbers. (a b : ℕ)
+        → a < node_count graph.now → b < node_count graph.now
         → slice_index numbers.items a ≡ slice_index numbers.items b → Leads graph.now a b) }
 {
     let order = finishing_order(alloc, graph)?;
@@ -48,12 +50,13 @@ pub(crate) fn component_numbers(
     }
 }
 
-/// The nodes in the order in which a search in depth leaves them. So an edge from one of the first nodes leads to one
-/// of them, or back to a node from which a walk leads to the last of them.
+/// The nodes in the order in which a search in depth leaves them. So an edge from one of the first nodes leads
+/// to one of them, or back to a node from which a walk leads to the last of them.
 fn finishing_order(alloc: Global, graph: &Graph) -> Result<Vec<u32>, NoMemory>
     requires { IsSound graph.now }
     ensures nodes { IfOk result (λ order. All (λ node. node < node_count graph.now) order.items) }
-    ensures each { IfOk result (λ order. (node : ℕ) → node < node_count graph.now → count_of order.items node ≡ 1) }
+    ensures each { IfOk result (λ order. (node : ℕ) → node < node_count graph.now
+        → count_of order.items node ≡ 1) }
     ensures edges { IfOk result (λ order. (i k after : ℕ) → i ≤ k → k < length order.items
         → HasEdge graph.now (slice_index order.items i) after
         → Contains (take (k + 1) order.items) after ⊎ Leads graph.now after (slice_index order.items k)) }
@@ -107,7 +110,8 @@ fn enter(seen: &mut Vec<bool>, path: &mut Vec<u32>, node: u32) -> Result<(), NoM
     ensures cases { OnOk result (((slice_index_or seen.old.items node false ≡ true)
         × (seen.new.items ≡ seen.old.items) × (path.new.items ≡ path.old.items))
         ⊎ ((slice_index_or seen.old.items node false ≡ false)
-        × (seen.new.items ≡ slice_set seen.old.items node true) × (path.new.items ≡ path.old.items ++ node ∷ []))) }
+        × (seen.new.items ≡ slice_set seen.old.items node true)
+        × (path.new.items ≡ path.old.items ++ node ∷ []))) }
 {
     if !seen[node as usize] {
         path.push(node)?;

@@ -12,7 +12,8 @@ use std::alloc::Global;
 /// Time and memory grow with the nodes and edges.
 pub fn on_cycle(alloc: Global, graph: &Graph) -> Result<Vec<bool>, NoMemory>
     requires { IsSound graph.now }
-    ensures exact { IfOk result (λ marks. TellsExactly graph.now (IsOnCycle graph.now) marks.items) }
+    ensures exact { IfOk result
+        (λ marks. TellsExactly graph.now (IsOnCycle graph.now) marks.items) }
 {
     marks_on_cycle(alloc, graph, &reversed(alloc, graph)?)
 }
@@ -25,7 +26,8 @@ pub(crate) fn marks_on_cycle(
 ) -> Result<Vec<bool>, NoMemory>
     requires graph { IsSound graph.now }
     requires turned { IsReversed graph.now turned.now }
-    ensures exact { IfOk result (λ marks. TellsExactly graph.now (IsOnCycle graph.now) marks.items) }
+    ensures exact { IfOk result
+        (λ marks. TellsExactly graph.now (IsOnCycle graph.now) marks.items) }
 {
     let numbers = component_numbers(alloc, graph, turned)?;
     let mut marks = Vec::with_capacity(alloc, graph.next.len())?;

@@ -1,12 +1,12 @@
-ghost use Rattle.std.specs.Prelude.{◌≡◌, ◌≢◌, ◌+◌, ◌<◌, ◌++◌, ◌∷◌, [], ℕ, All, IfOk, OnOk, length, vec_len};
+ghost use Rattle.std.specs.Prelude.{◌≡◌, ◌≢◌, ◌+◌, ◌<◌, ◌++◌, ◌∷◌, [], ℕ, All, IfOk, OnOk, vec_len};
 ghost use Rattle.dg_num.specs.Counts.{count_of, IsReversed};
 ghost use Rattle.dg_num.specs.Graph.{node_count, row_at, successors, IsSound};
 
 use crate::memory::NoMemory;
 use std::alloc::Global;
 
-/// A graph over the nodes 0, 1, 2 and so on. An edge may lead back to its own node, and several edges may join the
-/// same two nodes.
+/// A graph over the nodes 0, 1, 2 and so on. An edge may lead back to its own node, and several edges may
+/// join the same two nodes. A graph that is sound has fewer than 2^32 nodes, and its edges lead to nodes.
 #[derive(Debug, Drop)]
 pub struct Graph {
     /// For each node, in order, the nodes that its edges lead to.
@@ -53,8 +53,8 @@ fn push_to_each(rows: &mut Vec<Vec<u32>>, list: &[u32], number: u32) -> Result<(
     ensures len { vec_len rows.new ≡ vec_len rows.old }
     ensures more { OnOk result ((index : ℕ) → count_of (row_at rows.new.items index) number
         ≡ count_of (row_at rows.old.items index) number + count_of list.now index) }
-    ensures others { OnOk result ((index other : ℕ) → other ≢ number → count_of (row_at rows.new.items index) other
-        ≡ count_of (row_at rows.old.items index) other) }
+    ensures others { OnOk result ((index other : ℕ) → other ≢ number
+        → count_of (row_at rows.new.items index) other ≡ count_of (row_at rows.old.items index) other) }
 {
     for &index in list {
         push_at(rows, index, number)?;
@@ -66,8 +66,10 @@ fn push_to_each(rows: &mut Vec<Vec<u32>>, list: &[u32], number: u32) -> Result<(
 fn push_at(rows: &mut Vec<Vec<u32>>, index: u32, number: u32) -> Result<(), NoMemory>
     requires { index < vec_len rows.old }
     ensures len { vec_len rows.new ≡ vec_len rows.old }
-    ensures pushed { OnOk result (row_at rows.new.items index ≡ row_at rows.old.items index ++ number ∷ []) }
-    ensures others { OnOk result ((other : ℕ) → other ≢ index → row_at rows.new.items other ≡ row_at rows.old.items other) }
+    ensures pushed { OnOk result (row_at rows.new.items index
+        ≡ row_at rows.old.items index ++ number ∷ []) }
+    ensures others { OnOk result ((other : ℕ) → other ≢ index
+        → row_at rows.new.items other ≡ row_at rows.old.items other) }
 {
     rows[index as usize].push(number)?;
     Ok(())

@@ -1,4 +1,5 @@
-//! Graphs over numbered nodes: which nodes walks reach, which lie on cycles, and how long the longest walks are.
+//! Graphs whose nodes are numbers: which nodes walks reach, which lie on cycles, and how long the longest
+//! walks are.
 #![tactic(auto)]
 
 mod components;

@@ -7,15 +7,17 @@ use crate::graph::Graph;
 use crate::memory::NoMemory;
 use std::alloc::Global;
 
-/// The rank of each node from which no walk comes to a cycle, and 0 for the others, by counts of the edges whose ends
-/// have no rank yet. `turned` is the graph with its edges turned round. Time and memory grow with the nodes and edges.
+/// The rank of each node from which no walk comes to a cycle, and 0 for the others, by counts of the edges
+/// whose ends have no rank yet. `turned` is the graph with its edges turned round. Time and memory grow with
+/// the nodes and edges.
 pub(crate) fn peel(alloc: Global, graph: &Graph, turned: &Graph) -> Result<Vec<u32>, NoMemory>
     requires graph { IsSound graph.now }
     requires turned { IsReversed graph.now turned.now }
     ensures len { IfOk result (λ ranks. vec_len ranks ≡ node_count graph.now) }
     ensures ranked { IfOk result (λ ranks. (node : ℕ) → slice_index ranks.items node ≢ 0
         → IsRank graph.now node (slice_index ranks.items node)) }
-    ensures left { IfOk result (λ ranks. (node : ℕ) → node < node_count graph.now → slice_index ranks.items node ≡ 0
+    ensures left { IfOk result (λ ranks. (node : ℕ) → node < node_count graph.now
+        → slice_index ranks.items node ≡ 0
         → (after : ℕ) × HasEdge graph.now node after × (slice_index ranks.items after ≡ 0)) }
 {
     let mut ranks = vec![in alloc; 0; graph.next.len()]?;
@@ -31,7 +33,8 @@ pub(crate) fn peel(alloc: Global, graph: &Graph, turned: &Graph) -> Result<Vec<u
 /// How many edges each node has.
 pub(crate) fn row_lengths(alloc: Global, graph: &Graph) -> Result<Vec<usize>, NoMemory>
     ensures len { IfOk result (λ lengths. vec_len lengths ≡ node_count graph.now) }
-    ensures exact { IfOk result (λ lengths. (node : ℕ) → slice_index lengths.items node ≡ length (successors graph.now node)) }
+    ensures exact { IfOk result (λ lengths. (node : ℕ)
+        → slice_index lengths.items node ≡ length (successors graph.now node)) }
 {
     let mut lengths = Vec::with_capacity(alloc, graph.next.len())?;
     for row in &graph.next {
@@ -61,7 +64,8 @@ fn rank_above(ranks: &[u32], row: &[u32]) -> u32
     requires within { All (λ node. node < length ranks.now) row.now }
     requires small { (node : ℕ) → slice_index ranks.now node + 1 < 2 ^ 32 }
     ensures above { All (λ node. slice_index ranks.now node < result) row.now }
-    ensures reached { (result ≡ 1) ⊎ ((node : ℕ) × Contains row.now node × (result ≡ slice_index ranks.now node + 1)) }
+    ensures reached { (result ≡ 1)
+        ⊎ ((node : ℕ) × Contains row.now node × (result ≡ slice_index ranks.now node + 1)) }
 {
     let mut rank = 1;
     for &node in row {
@@ -73,11 +77,13 @@ fn rank_above(ranks: &[u32], row: &[u32]) -> u32
     rank
 }
 
-/// Takes 1 from the count of each node in the row, as often as it stands there, and lists those that come to 0.
+/// Takes 1 from the count of each node in the row, as often as it stands there, and lists those that come
+/// to 0.
 fn release(missing: &mut Vec<usize>, ready: &mut Vec<u32>, row: &[u32]) -> Result<(), NoMemory>
     requires within { All (λ node. node < vec_len missing.old) row.now }
     requires ready_within { All (λ node. node < vec_len missing.old) ready.old.items }
-    requires enough { (node : ℕ) → node < vec_len missing.old → count_of row.now node ≤ slice_index missing.old.items node }
+    requires enough { (node : ℕ) → node < vec_len missing.old
+        → count_of row.now node ≤ slice_index missing.old.items node }
     ensures len { vec_len missing.new ≡ vec_len missing.old }
     ensures ready_within { OnOk result (All (λ node. node < vec_len missing.old) ready.new.items) }
     ensures less { OnOk result ((node : ℕ) → node < vec_len missing.old

@@ -1,5 +1,5 @@
 ghost use Rattle.std.specs.Prelude.{◌≡◌, ◌≢◌, ◌^◌, ◌<◌, ◌≤◌, ◌↔◌, ℕ, IfOk, IsTrue, SomeIndex, length, slice_index};
-ghost use Rattle.dg_num.specs.Graph.{node_count, IsSound};
+ghost use Rattle.dg_num.specs.Graph.{IsSound};
 ghost use Rattle.dg_num.specs.Walks.{IsLeastOnCycle, IsTrueAt, RanksExactly};
 
 use crate::cycles::marks_on_cycle;
@@ -27,7 +27,7 @@ impl From<NoMemory> for RankFault {
     }
 }
 
-/// For each node, the number of nodes on the longest walk that begins there: one where no edge leads on.
+/// For each node, the number of nodes on the longest walk that begins there: 1 where no edge leads on.
 /// Time and memory grow with the nodes and edges.
 pub fn ranks(alloc: Global, graph: &Graph) -> Result<Vec<u32>, RankFault>
     requires { IsSound graph.now }

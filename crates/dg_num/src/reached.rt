@@ -11,7 +11,8 @@ use std::alloc::Global;
 pub fn reach(alloc: Global, graph: &Graph, from: &[u32]) -> Result<Vec<bool>, NoMemory>
     requires graph { IsSound graph.now }
     requires from { All (λ node. node < node_count graph.now) from.now }
-    ensures exact { IfOk result (λ marks. TellsExactly graph.now (IsReached graph.now from.now) marks.items) }
+    ensures exact { IfOk result
+        (λ marks. TellsExactly graph.now (IsReached graph.now from.now) marks.items) }
 {
     let mut marks = vec![in alloc; false; graph.next.len()]?;
     let mut queue = Vec::new(alloc);
