@@ -1,0 +1,3 @@
+pub mod Counts
+pub mod Graph
+pub mod Walks

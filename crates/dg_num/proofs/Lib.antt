@@ -1,0 +1,9 @@
+pub mod Counts
+pub mod Marks
+pub mod Numberings
+pub mod Peels
+pub mod Repeats
+pub mod Rows
+pub mod Searches
+pub mod Visits
+pub mod WalkLaws
