@@ -8,7 +8,7 @@ use std::marker::Model;
 /// Contracts see the list of its bytes. That it is spelled so is said where a document is read.
 #[derive(Debug, Drop)]
 pub struct Name {
-    bytes: Vec<u8>,
+    pub bytes: Vec<u8>,
 }
 
 impl Model for Name {

@@ -8,7 +8,7 @@ use std::marker::Model;
 /// Contracts see the list of its bytes.
 #[derive(Debug, Drop)]
 pub struct Text {
-    bytes: Vec<u8>,
+    pub bytes: Vec<u8>,
 }
 
 impl Model for Text {
