@@ -13,11 +13,19 @@ pub struct Param {
 #[derive(Debug, Drop)]
 pub enum Item {
     /// `class N(PARAMS)`
-    Class { name: Name, params: Items<Param> },
+    Class {
+        name: Name,
+        params: Items<Param>,
+    },
     /// `module N {`
-    Module { name: Name },
+    Module {
+        name: Name,
+    },
     /// `component N modules N {`; the list is empty where no module is named.
-    Component { name: Name, modules: Items<Name> },
+    Component {
+        name: Name,
+        modules: Items<Name>,
+    },
     /// `provides N() : TYPE = CONST`
     Provides {
         name: Name,
@@ -25,11 +33,20 @@ pub enum Item {
         body: Expr,
     },
     /// `entry N : TYPE`
-    Entry { name: Name, result: TypeUse },
+    Entry {
+        name: Name,
+        result: TypeUse,
+    },
     /// `}`
     End,
     /// `open N : N`
-    OpenLine { name: Name, class: Name },
+    OpenLine {
+        name: Name,
+        class: Name,
+    },
     /// `ask N.N`
-    AskLine { inst: Name, entry: Name },
+    AskLine {
+        inst: Name,
+        entry: Name,
+    },
 }

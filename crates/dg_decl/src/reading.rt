@@ -6,5 +6,4 @@ ghost use Rattle.dg_decl.specs.Reading.{OneReading};
 /// first bad line' each mean one thing.
 pub fn one_reading()
     ensures exact { OneReading }
-{
-}
+{}
