@@ -1,7 +1,7 @@
 -- Objects are numbered in the order in which they first appear.
-use Rattle.std.proofs.Common.{◌≡◌, ◌≢◌, ℕ, zero, suc, ◌+◌, ◌<◌, ◌≤◌, Bool, true, false, eqb, inl, inr, List, [], ◌∷◌, ◌++◌, length, get_or, drop, Option, Some, None, refl, sym, ap, subst, ◌∙◌, append_assoc, arith}
-use Rattle.std.specs.Prelude.{position, ◌&&◌, codes, decimal}
-use Rattle.std.specs.List.{position_or_len, cons_option, filter_map}
+use Rattle.std.proofs.Common.{◌≡◌, ℕ, ◌+◌, ◌<◌, ◌≤◌, false, eqb, inl, inr, List, [], ◌∷◌, ◌++◌, length, get_or, drop, Option, Some, None, refl, sym, ap, subst, ◌∙◌, append_assoc, arith}
+use Rattle.std.specs.Prelude.{position, codes, decimal}
+use Rattle.std.specs.List.{position_or_len, cons_option}
 use Rattle.std.proofs.lemmas.Bool.{le-ltb}
 use Rattle.std.proofs.lemmas.Bool.Decides.{eqb_tells}
 use Rattle.std.proofs.lemmas.List.{at_drop_more, at_drop_all, length_push, append-nil}
@@ -11,7 +11,7 @@ use Rattle.dg_decl.specs.declared.item.Item.TheVariants.{Class, Module, Componen
 use Rattle.dg_decl.specs.Bytes.{Bytes, line_end}
 use Rattle.dg_top.specs.Evaluation.{Place, same_place, Value, Words, Object, layer_value, evaluate, body_of_ask, value_of_ask}
 use Rattle.dg_top.specs.Printing.{new_text, object_count}
-use Rattle.dg_top.specs.Report.{printed, appearance, numbered, fields_text, reply_line, reply, replies, ask_in, asks_of, report}
+use Rattle.dg_top.specs.Report.{printed, reply_line, reply, replies, ask_in, asks_of, report}
 
 -- each of these objects is of an ask with a number below n
 abbrev pub AreBefore : ℕ → List Place → Type 0
@@ -120,7 +120,7 @@ pub silent_ask : (items : List Item) (asks objects index : ℕ) (out : Bytes) (i
     → body_of_ask items ask ≡ None → IsReported items (asks + 1) objects (index + 1) out
 silent_ask items asks objects index out item ask reported lt is some none =
     let next : replies items (asks + 1) reported.appeared (asks_of (drop index items)) ≡ replies items (asks + 1 + 1) reported.appeared (asks_of (drop (index + 1) items)) =
-      ap (replies items (asks + 1) reported.appeared) (asks_are items index item ask lt is some) ∙ rw none refl in
+    ap (replies items (asks + 1) reported.appeared) (asks_are items index item ask lt is some) ∙ rw none refl in
     record {
       appeared = reported.appeared;
       count = reported.count;
@@ -138,9 +138,9 @@ next_reply items asks objects index count out new item ask body reported lt is s
     let behind : List Place = appeared_behind reported.appeared value in
     let line : Bytes = reply_line (asks + 1) (new_text objects value) in
     let answer : reply (asks + 1) reported.appeared (value_of_ask items (asks + 1) ask) ≡ (line, behind) =
-      rw bound (rw (← reported.count) (reply_new items (asks + 1) reported.appeared body reported.before)) in
+    rw bound (rw (← reported.count) (reply_new items (asks + 1) reported.appeared body reported.before)) in
     let next : replies items (asks + 1) reported.appeared (asks_of (drop index items)) ≡ line ++ replies items (asks + 1 + 1) behind (asks_of (drop (index + 1) items)) =
-      ap (replies items (asks + 1) reported.appeared) (asks_are items index item ask lt is some) ∙ ap (λ (r : Bytes × List Place). r.0 ++ replies items (asks + 1 + 1) r.1 (asks_of (drop (index + 1) items))) answer in
+    ap (replies items (asks + 1) reported.appeared) (asks_are items index item ask lt is some) ∙ ap (λ (r : Bytes × List Place). r.0 ++ replies items (asks + 1 + 1) r.1 (asks_of (drop (index + 1) items))) answer in
     let more : object_count value ≤ 1 = one_at_most value in
     record {
       appeared = behind;

@@ -1,10 +1,9 @@
 -- What a run has done when it ends, without words.
-use Rattle.std.proofs.Common.{◌≡◌, ◌≢◌, ◌⊎◌, ◌↔◌, inl, inr, ℕ, zero, suc, ◌+◌, ◌<◌, ◌≤◌, Bool, true, false, List, [], ◌∷◌, ◌++◌, length, take, Option, Some, None, refl, sym, ap, subst, ◌∙◌, arith}
+use Rattle.std.proofs.Common.{◌≡◌, ◌≢◌, ◌⊎◌, inl, inr, ℕ, ◌+◌, ◌<◌, ◌≤◌, Bool, true, false, List, [], ◌++◌, length, take, Option, Some, None, refl, sym, ap, subst, ◌∙◌, arith}
 use Rattle.std.specs.Prelude.{map, ◌==◌}
 use Rattle.std.specs.Io.KnownBytes.{Appends, Consumes, IsAtEnd}
 use Rattle.std.proofs.lemmas.Bool.{eqb-true, eqb-false}
 use Rattle.std.proofs.lemmas.List.{append-nil, append_cancel_left, length-append, length-take, length-map, nil_from_length}
-use Rattle.dg_io.specs.Causes.{Rose}
 use Rattle.dg_decl.specs.Bytes.{Bytes}
 use Rattle.dg_decl.specs.declared.document.Doc.{Doc}
 use Rattle.dg_decl.specs.declared.item.Item.{Item}
@@ -146,18 +145,16 @@ bad_line_is bytes status text (ran none within reads) same = absurd cc
 
 pub bad_line_written : (left new_left old new : Option Bytes) (status : Status) (text : Bytes) → Answers left new_left status text → Appends old new text → BadLineExactly [] left old new status
 bad_line_written left new_left old new status text answers appended bytes before told known =
-    let output = outputs left new_left status text bytes answers told in
-    (
+    let output = outputs left new_left status text bytes answers told in (
       λ same. (let line = bad_line_is bytes status text output same in (line.0, refl, line.1, line.2, appended_is old new before text known appended ∙ ap (λ (v : Bytes). Some (before ++ v)) line.3)),
-      λ line. sym (only_output [] bytes status BadLine text (bad_line_text line.0) output (bad_line refl line.2 line.3)).0
+      λ line. sym (only_output [] bytes status BadLine text (bad_line_text line.0) output (bad_line refl line.2 line.3)).0,
     )
 
 pub too_long_written : (left new_left old new : Option Bytes) (status : Status) (text : Bytes) → Answers left new_left status text → Appends old new text → TooLongExactly [] left new_left old new status
-too_long_written left new_left old new status text answers appended bytes before told known =
-    (
-      λ same. (refl, (long_taken left new_left status text bytes answers told same).0, appended_is old new before text known appended ∙ ap (λ (v : Bytes). Some (before ++ v)) (long_taken left new_left status text bytes answers told same).1),
-      λ long. sym (only_output [] bytes status TooLong text too_long_text (outputs left new_left status text bytes answers told) (too_long refl (taken_long left new_left bytes long.1 told))).0
-    )
+too_long_written left new_left old new status text answers appended bytes before told known = (
+  λ same. (refl, (long_taken left new_left status text bytes answers told same).0, appended_is old new before text known appended ∙ ap (λ (v : Bytes). Some (before ++ v)) (long_taken left new_left status text bytes answers told same).1),
+  λ long. sym (only_output [] bytes status TooLong text too_long_text (outputs left new_left status text bytes answers told) (too_long refl (taken_long left new_left bytes long.1 told))).0,
+)
   where
     within_isnt : (bytes : Bytes) (status : Status) (text : Bytes) → length bytes ≤ document_limit → IsOutput [] bytes status text → status ≡ TooLong → ⊥
     within_isnt bytes status text within (bad_words some) same = absurd cc
@@ -171,22 +168,20 @@ too_long_written left new_left old new status text answers appended bytes before
 
 -- nothing was written
 pub bad_line_unwritten : (left old : Option Bytes) (status : Status) (C : Type 0) → ((status ≡ ReadFault) × C) ⊎ (status ≡ NoMemory) → BadLineExactly [] left old old status
-bad_line_unwritten left old status C cause bytes before told known =
-    (
-      λ same. absurd (is_neither status C BadLine cause same (λ e. absurd cc) (λ e. absurd cc)),
-      λ line. absurd (no_growth before (bad_line_text line.0) (some_text bytes BadLine (bad_line_text line.0) (bad_line refl line.2 line.3)) (some_is before (before ++ bad_line_text line.0) (sym known ∙ line.4)))
-    )
+bad_line_unwritten left old status C cause bytes before told known = (
+  λ same. absurd (is_neither status C BadLine cause same (λ e. absurd cc) (λ e. absurd cc)),
+  λ line. absurd (no_growth before (bad_line_text line.0) (some_text bytes BadLine (bad_line_text line.0) (bad_line refl line.2 line.3)) (some_is before (before ++ bad_line_text line.0) (sym known ∙ line.4))),
+)
   where
     is_neither : (status : Status) (C : Type 0) (other : Status) → ((status ≡ ReadFault) × C) ⊎ (status ≡ NoMemory) → status ≡ other → (other ≡ ReadFault → ⊥) → (other ≡ NoMemory → ⊥) → ⊥
     is_neither status C other (inl read) same one two = one (sym same ∙ read.0)
     is_neither status C other (inr memory) same one two = two (sym same ∙ memory)
 
 pub too_long_unwritten : (left new_left old : Option Bytes) (status : Status) (C : Type 0) → ((status ≡ ReadFault) × C) ⊎ (status ≡ NoMemory) → TooLongExactly [] left new_left old old status
-too_long_unwritten left new_left old status C cause bytes before told known =
-    (
-      λ same. absurd (isnt_long status C cause same),
-      λ long. absurd (no_growth before too_long_text (some_text bytes TooLong too_long_text (too_long refl (taken_long left new_left bytes long.1 told))) (some_is before (before ++ too_long_text) (sym known ∙ long.2)))
-    )
+too_long_unwritten left new_left old status C cause bytes before told known = (
+  λ same. absurd (isnt_long status C cause same),
+  λ long. absurd (no_growth before too_long_text (some_text bytes TooLong too_long_text (too_long refl (taken_long left new_left bytes long.1 told))) (some_is before (before ++ too_long_text) (sym known ∙ long.2))),
+)
   where
     isnt_long : (status : Status) (C : Type 0) → ((status ≡ ReadFault) × C) ⊎ (status ≡ NoMemory) → status ≡ TooLong → ⊥
     isnt_long status C (inl read) same = absurd (let e : TooLong ≡ ReadFault = sym same ∙ read.0 in cc)
@@ -202,18 +197,16 @@ front_isnt bytes before old new status other text other_text n output same less 
 
 pub bad_line_front : (left new_left old new : Option Bytes) (status : Status) (text : Bytes) (n : ℕ) → Answers left new_left status text → n < length text → Appends old new (take n text) → BadLineExactly [] left old new WriteFault
 bad_line_front left new_left old new status text n answers less appended bytes before told known =
-    let output = outputs left new_left status text bytes answers told in
-    (
+    let output = outputs left new_left status text bytes answers told in (
       λ same. absurd (let e : WriteFault ≡ BadLine = same in cc),
-      λ line. absurd (front_isnt bytes before old new status BadLine text (bad_line_text line.0) n output (bad_line refl line.2 line.3) less appended known line.4)
+      λ line. absurd (front_isnt bytes before old new status BadLine text (bad_line_text line.0) n output (bad_line refl line.2 line.3) less appended known line.4),
     )
 
 pub too_long_front : (left new_left old new : Option Bytes) (status : Status) (text : Bytes) (n : ℕ) → Answers left new_left status text → n < length text → Appends old new (take n text) → TooLongExactly [] left new_left old new WriteFault
 too_long_front left new_left old new status text n answers less appended bytes before told known =
-    let output = outputs left new_left status text bytes answers told in
-    (
+    let output = outputs left new_left status text bytes answers told in (
       λ same. absurd (let e : WriteFault ≡ TooLong = same in cc),
-      λ long. absurd (front_isnt bytes before old new status TooLong text too_long_text n output (too_long refl (taken_long left new_left bytes long.1 told)) less appended known long.2)
+      λ long. absurd (front_isnt bytes before old new status TooLong text too_long_text n output (too_long refl (taken_long left new_left bytes long.1 told)) less appended known long.2),
     )
 
 pub is_complete : (left new_left : Option Bytes) (a b c d : ℕ) (status : Status) (text : Bytes) → Answers left new_left status text → IsComplete [] left a b c d status

@@ -1,4 +1,4 @@
-use Rattle.std.proofs.Common.{◌≡◌, ◌≤◌, ◌++◌, ◌+◌, ℕ, length, vec_len, ap, sym, ◌∙◌, arith}
+use Rattle.std.proofs.Common.{◌≡◌, ◌+◌, length, ap, ◌∙◌, arith}
 use Rattle.std.specs.Prelude.{decimal}
 use Rattle.std.proofs.lemmas.List.{length-append}
 use Rattle.dg_decl.specs.Bytes.{Bytes}
@@ -20,8 +20,8 @@ returns c =
     record {
       exact = (
         reply_made c.args.out.now.items (decimal c.args.number) (printing.new_text c.args.objects (evaluation.evaluate c.args.items.now c.args.number c.args.body.now))
-        c.push.new.self.items c.push_value.new.out.items c.cut_from.new.out.items c.push-2.new.self.items c.len-start.result
-        (rw (← c.in_ok-push_decimal.ensures.exact) c.in_ok-push.ensures.items) start value.0 c.in_ok-cut_from.ensures.exact c.in_ok-push-2.ensures.items,
-        value.1
+            c.push.new.self.items c.push_value.new.out.items c.cut_from.new.out.items c.push-2.new.self.items c.len-start.result
+            (rw (← c.in_ok-push_decimal.ensures.exact) c.in_ok-push.ensures.items) start value.0 c.in_ok-cut_from.ensures.exact c.in_ok-push-2.ensures.items,
+        value.1,
       );
     }

@@ -1,6 +1,6 @@
-use Rattle.std.proofs.Common.{sym, ◌∙◌, ◌≡◌, List, []}
+use Rattle.std.proofs.Common.{sym, ◌∙◌, ◌≡◌, []}
 use Rattle.std.proofs.lemmas.Result.{IfOk-at_ok}
-use Rattle.dg_top.specs.Answers.{Answers, to_all}
+use Rattle.dg_top.specs.Answers.{to_all}
 use Rattle.dg_top.specs.Output.{IsOutput, too_long_text}
 use Rattle.dg_top.specs.declared.run.Answer.{Answer}
 use Rattle.dg_top.specs.declared.status.Status.TheVariants.{TooLong}
@@ -15,10 +15,10 @@ returns-in-Ok-answered-clause-exact g c =
     let answer = c.in-Ok-answered.answer in
     elim c.match-read_all.branch [
       | in-Ok w ↦
-        (let output = IfOk-at_ok (λ (a : Answer). IsOutput [] w.as_slice.result.now a.status a.text.items) (sym w.answered-is ∙ c.in-Ok-answered.is) w.answer_to-answered.ensures.exact in
-        to_all w.in-Ok.bytes.items w.in-Ok.ensures.exact.taken w.in-Ok.ensures.exact.at_end w.in-Ok.ensures.exact.within (rw w.as_slice.ensures.value at output))
+          (let output = IfOk-at_ok (λ (a : Answer). IsOutput [] w.as_slice.result.now a.status a.text.items) (sym w.answered-is ∙ c.in-Ok-answered.is) w.answer_to-answered.ensures.exact in
+          to_all w.in-Ok.bytes.items w.in-Ok.ensures.exact.taken w.in-Ok.ensures.exact.at_end w.in-Ok.ensures.exact.within (rw w.as_slice.ensures.value at output))
       | in-Err-TooLong w ↦
-        (let text = IfOk-at_ok (λ (a : Answer). (a.status ≡ TooLong) × (a.text.items ≡ too_long_text)) (sym w.answered-is ∙ c.in-Ok-answered.is) w.too_long-answered.ensures.exact in
-        let cause = rw w.in-Err-TooLong.field-0-is at w.in-Err-TooLong.ensures.cause in
-        answer_long left new_left answer.status answer.text.items cause.0 text.0 text.1)
+          (let text = IfOk-at_ok (λ (a : Answer). (a.status ≡ TooLong) × (a.text.items ≡ too_long_text)) (sym w.answered-is ∙ c.in-Ok-answered.is) w.too_long-answered.ensures.exact in
+          let cause = rw w.in-Err-TooLong.field-0-is at w.in-Err-TooLong.ensures.cause in
+          answer_long left new_left answer.status answer.text.items cause.0 text.0 text.1)
     ]
