@@ -1,7 +1,7 @@
 -- Objects are numbered in the order in which they first appear.
-use Rattle.std.proofs.Common.{◌≡◌, ◌≢◌, ℕ, zero, suc, ◌+◌, ◌<◌, ◌≤◌, Bool, true, false, eqb, inl, inr, List, [], ◌∷◌, ◌++◌, length, get_or, drop, Option, Some, None, refl, sym, ap, subst, ◌∙◌, append_assoc, arith}
-use Rattle.std.specs.Prelude.{position, ◌&&◌, codes, decimal}
-use Rattle.std.specs.List.{position_or_len, cons_option, filter_map}
+use Rattle.std.proofs.Common.{◌≡◌, ℕ, ◌+◌, ◌<◌, ◌≤◌, false, eqb, inl, inr, List, [], ◌∷◌, ◌++◌, length, get_or, drop, Option, Some, None, refl, sym, ap, subst, ◌∙◌, append_assoc, arith}
+use Rattle.std.specs.Prelude.{position, codes, decimal}
+use Rattle.std.specs.List.{position_or_len, cons_option}
 use Rattle.std.proofs.lemmas.Bool.{le-ltb}
 use Rattle.std.proofs.lemmas.Bool.Decides.{eqb_tells}
 use Rattle.std.proofs.lemmas.List.{at_drop_more, at_drop_all, length_push, append-nil}
@@ -11,7 +11,7 @@ use Rattle.dg_decl.specs.declared.item.Item.TheVariants.{Class, Module, Componen
 use Rattle.dg_decl.specs.Bytes.{Bytes, line_end}
 use Rattle.dg_top.specs.Evaluation.{Place, same_place, Value, Words, Object, layer_value, evaluate, body_of_ask, value_of_ask}
 use Rattle.dg_top.specs.Printing.{new_text, object_count}
-use Rattle.dg_top.specs.Report.{printed, appearance, numbered, fields_text, reply_line, reply, replies, ask_in, asks_of, report}
+use Rattle.dg_top.specs.Report.{printed, reply_line, reply, replies, ask_in, asks_of, report}
 
 -- each of these objects is of an ask with a number below n
 abbrev pub AreBefore : ℕ → List Place → Type 0

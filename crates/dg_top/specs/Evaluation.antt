@@ -1,5 +1,5 @@
 -- What an ask gives, by looking its entry point up in the declarations.
-use Rattle.std.specs.Prelude.{ℕ, Bool, ◌&&◌, ◌==◌, List, [], ◌∷◌, Option, Some, None, unwrap_or, option_and_then}
+use Rattle.std.specs.Prelude.{ℕ, Bool, ◌&&◌, ◌==◌, List, [], ◌∷◌, Option, unwrap_or, option_and_then}
 use Rattle.std.specs.Option.{option_map}
 use Rattle.dg_types.specs.declared.shape.TypeUse.{TypeUse}
 use Rattle.dg_decl.specs.declared.expression.Expr.{Expr, Expr-F, out-Expr}
