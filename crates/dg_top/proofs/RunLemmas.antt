@@ -1,6 +1,7 @@
 -- What a run has done when it ends, without words.
 use Rattle.std.proofs.Common.{◌≡◌, ◌≢◌, ◌⊎◌, ◌↔◌, inl, inr, ℕ, zero, suc, ◌+◌, ◌<◌, ◌≤◌, Bool, true, false, List, [], ◌∷◌, ◌++◌, length, take, Option, Some, None, refl, sym, ap, subst, ◌∙◌, arith}
 use Rattle.std.specs.Prelude.{map, ◌==◌}
+use Rattle.std.specs.List.{flat_map}
 use Rattle.std.specs.Io.KnownBytes.{Appends, Consumes, IsAtEnd}
 use Rattle.std.proofs.lemmas.Bool.{eqb-true, eqb-false}
 use Rattle.std.proofs.lemmas.List.{append-nil, append_cancel_left, length-append, length-take, length-map, nil_from_length}
@@ -10,7 +11,8 @@ use Rattle.dg_decl.specs.declared.document.Doc.{Doc}
 use Rattle.dg_decl.specs.declared.item.Item.{Item}
 use Rattle.dg_decl.specs.Reading.{FirstBad, Reads}
 use Rattle.dg_top.specs.Report.{report}
-use Rattle.dg_top.specs.Rules.{violations, diagnostics}
+use Rattle.dg_top.specs.declared.rules.violation.Violation.{Violation}
+use Rattle.dg_top.specs.Rules.{violations, line_of, diagnostics}
 use Rattle.dg_top.specs.declared.status.Status.{Status}
 use Rattle.dg_top.specs.declared.status.Status.TheVariants.{Ran, Refused, BadWords, BadLine, ReadFault, WriteFault, NoMemory, TooLong}
 use Rattle.dg_top.specs.Output.{document_limit, too_long_text, bad_line_text, IsOutput, bad_words, too_long, bad_line, refused, ran}
@@ -262,6 +264,15 @@ pub some_words : {W : Type 0} (bytes_of : W → Bytes) (words : List W) (empty :
 some_words bytes_of words empty is fails none = eqb-false _ _ (sym is ∙ fails) (sym (length-map words bytes_of) ∙ ap length none)
 
 -- ---- answers to bytes
+
+-- the report where no violation was found, and the lines of those that were found
+pub answer_good : (items : List Item) (vs : List Violation) (text : Bytes) → vs ≡ violations items → length vs ≡ 0 → text ≡ report items → AnswersItems items Ran text
+answer_good items vs text found none is = subst (λ (x : Bytes). AnswersItems items Ran x) (sym is) (to_good (sym found ∙ nil_from_length vs none))
+
+pub answer_broken : (items : List Item) (vs : List Violation) (text : Bytes) → vs ≡ violations items → length vs ≢ 0 → text ≡ flat_map line_of vs → AnswersItems items Refused text
+unfolding diagnostics
+answer_broken items vs text found some is =
+    subst (λ (x : Bytes). AnswersItems items Refused x) (sym (is ∙ ap (flat_map line_of) found)) (to_broken (λ none. some (ap length (found ∙ none))))
 
 -- the answer to the items of a document that is read is the output
 pub answer_read : (bytes : Bytes) (doc : Doc) (items : List Item) (status : Status) (text : Bytes) → length bytes ≤ document_limit → Reads bytes doc → items ≡ doc.items → AnswersItems items status text → IsOutput [] bytes status text
