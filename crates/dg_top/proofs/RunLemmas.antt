@@ -201,7 +201,7 @@ pub refused_unwritten : (left old : Option Bytes) (status : Status) (C : Type 0)
 refused_unwritten left old status C cause bytes before told known = (
   λ same. absurd (is_neither status C Refused cause same (λ e. absurd cc) (λ e. absurd cc)),
   λ is. (let text : Bytes = diagnostics is.0.items in
-  absurd (no_growth before text (some_text bytes Refused text (refused refl is.2 is.3 is.4)) (some_is before (before ++ text) (sym known ∙ is.5)))),
+      absurd (no_growth before text (some_text bytes Refused text (refused refl is.2 is.3 is.4)) (some_is before (before ++ text) (sym known ∙ is.5)))),
 )
 
 pub too_long_unwritten : (left new_left old : Option Bytes) (status : Status) (C : Type 0) → ((status ≡ ReadFault) × C) ⊎ (status ≡ NoMemory) → TooLongExactly [] left new_left old old status
