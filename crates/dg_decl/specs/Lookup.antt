@@ -65,9 +65,9 @@ entry_of class entry items = first (entry_in class entry) (placed items)
 
 abbrev pub same_shape : Shape → Shape → Bool
 same_shape shape.Text shape.Text = true
-same_shape shape.Text (shape.Named n) = false
-same_shape (shape.Named m) shape.Text = false
+same_shape shape.Int shape.Int = true
 same_shape (shape.Named m) (shape.Named n) = bytes_eq m n
+same_shape s t = false
 
 abbrev pub same_type : TypeUse → TypeUse → Bool
 same_type s t = same_shape s.shape t.shape
