@@ -76,7 +76,7 @@ other_number z other is =
     elim (one_of_two (bytes_eq z (codes "0")) (is_counting z && nat_lt (value_of_digits z) (2 ^ 63)) (slice_index z 0 == 45) (is_counting (drop 1 z)) (nat_le (value_of_digits (drop 1 z)) (2 ^ 63)) other is) [
       | inl zero ↦ rw ((bytes_eq-Decides z (codes "0")).0 zero) record { digits = refl; within = omega arith }
       | inr counts ↦ (let parts = and_parts (is_counting z) (nat_lt (value_of_digits z) (2 ^ 63)) counts in
-        record { digits = counting_digits z parts.0; within = ltb-true (value_of_digits z) (2 ^ 63) parts.1 })
+          record { digits = counting_digits z parts.0; within = ltb-true (value_of_digits z) (2 ^ 63) parts.1 })
     ]
 
 pub value_of_negative : (z : Bytes) → slice_index z 0 ≡ 45 → neg_ℤ (pos (value_of_digits (drop 1 z))) ≡ value_of_integer z

@@ -80,7 +80,7 @@ fn same_shape(a: &Shape, b: &Shape) -> bool
     ensures exact { result ≡ lookup.same_shape a.now b.now }
 {
     match (a, b) {
-        (Shape::Text, Shape::Text) => true,
+        (Shape::Text, Shape::Text) | (Shape::Int, Shape::Int) => true,
         (Shape::Named(m), Shape::Named(n)) => m.is(n.as_slice()),
         _ => false,
     }

@@ -156,7 +156,7 @@ fn bad_lines_are_named_by_their_number(rt: HostRuntime) -> Result<(), Fail> {
     let header = b"component App {\n".as_slice();
     let cases = [
         (b"}\n".as_slice(), b"bad line 1\n".as_slice()),
-        (b"\n\nclass A(a: Int)\n", b"bad line 3\n"),
+        (b"\n\nclass A(a: Db)\n", b"bad line 3\n"),
         (b"class A()\nclass A()\n", b"bad line 2\n"),
         (header, b"bad line 2\n"),
         (b"ask a.db\n", b"bad line 1\n"),

@@ -183,12 +183,12 @@ fn are_distinct(params: &[Param]) -> bool
     true
 }
 
-fn are_texts(params: &[Param]) -> bool
-    ensures exact { result ≡ list_all conditions.is_text_param params.now }
+fn are_basic(params: &[Param]) -> bool
+    ensures exact { result ≡ list_all conditions.is_basic_param params.now }
 {
     params
         .iter()
-        .all(|param| matches!(param.shape.shape, Shape::Text))
+        .all(|param| matches!(param.shape.shape, Shape::Text | Shape::Int))
 }
 
 fn is_class(name: &Name, earlier: &[Item]) -> bool
@@ -201,7 +201,7 @@ fn is_known(shape: &Shape, earlier: &[Item]) -> bool
     ensures exact { result ≡ conditions.is_known_shape shape.now earlier.now }
 {
     match shape {
-        Shape::Text => true,
+        Shape::Text | Shape::Int => true,
         Shape::Named(name) => is_class(name, earlier),
     }
 }
@@ -209,7 +209,10 @@ fn is_known(shape: &Shape, earlier: &[Item]) -> bool
 fn argument_checks(arg: &Expr, shape: &Shape) -> bool
     ensures exact { result ≡ conditions.argument_checks (out-Expr arg.now) shape.now }
 {
-    matches!((arg, shape), (Expr::Text(_), Shape::Text))
+    matches!(
+        (arg, shape),
+        (Expr::Text(_), Shape::Text) | (Expr::Int(_), Shape::Int)
+    )
 }
 
 fn arguments_check(args: &[Expr], params: &[Param]) -> bool
@@ -253,7 +256,7 @@ fn checks(body: &Expr, wanted: &TypeUse, earlier: &[Item]) -> bool
     ensures exact { result ≡ conditions.checks body.now wanted.now earlier.now }
 {
     match (body, &wanted.shape) {
-        (Expr::Text(_), Shape::Text) => true,
+        (Expr::Text(_), Shape::Text) | (Expr::Int(_), Shape::Int) => true,
         (Expr::New { class, args }, Shape::Named(name)) => {
             makes(class, args.as_slice(), name, earlier)
         }
@@ -291,7 +294,7 @@ pub fn is_admitted(item: &Item, header: Option<&Item>, members: &[Item], earlier
     match item {
         Item::Class { name, params } => {
             is_new(name.as_slice(), earlier)
-                && are_texts(params.as_slice())
+                && are_basic(params.as_slice())
                 && are_distinct(params.as_slice())
         }
         Item::Module { name } => is_new(name.as_slice(), earlier) && !has_module(earlier),
