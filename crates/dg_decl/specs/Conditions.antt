@@ -115,18 +115,18 @@ is_known_shape shape.Text earlier = true
 is_known_shape shape.Int earlier = true
 is_known_shape (shape.Named n) earlier = is_some (params_of n earlier)
 
--- an argument has the type of its parameter
-abbrev pub argument_checks : Expr-F Expr → Shape → Bool
-argument_checks (Expr-F.Text t) shape.Text = true
-argument_checks (Expr-F.Int n) shape.Int = true
-argument_checks argument type = false
+-- it is a text of type `Text`, or an integer of type `Int`
+abbrev pub basic_checks : Expr-F Expr → Shape → Bool
+basic_checks (Expr-F.Text t) shape.Text = true
+basic_checks (Expr-F.Int n) shape.Int = true
+basic_checks constant type = false
 
 -- as many arguments as parameters, and each of its type
 abbrev pub arguments_check : List Expr → List Param → Bool
 arguments_check [] [] = true
 arguments_check [] (p ∷ ps) = false
 arguments_check (x ∷ xs) [] = false
-arguments_check (x ∷ xs) (p ∷ ps) = argument_checks (out-Expr x) p.shape.shape && arguments_check xs ps
+arguments_check (x ∷ xs) (p ∷ ps) = basic_checks (out-Expr x) p.shape.shape && arguments_check xs ps
 
 abbrev pub fits_params : List Expr → Option (List Param) → Bool
 fits_params xs None = false
@@ -134,10 +134,8 @@ fits_params xs (Some ps) = arguments_check xs ps
 
 -- a constant has a type
 abbrev pub layer_checks : Expr-F Expr → Shape → List Item → Bool
-layer_checks (Expr-F.Text t) shape.Text earlier = true
-layer_checks (Expr-F.Int n) shape.Int earlier = true
 layer_checks (Expr-F.New c xs) (shape.Named n) earlier = bytes_eq c n && fits_params xs (params_of c earlier)
-layer_checks constant type earlier = false
+layer_checks constant type earlier = basic_checks constant type
 
 abbrev pub checks : Expr → TypeUse → List Item → Bool
 checks e t earlier = layer_checks (out-Expr e) t.shape earlier

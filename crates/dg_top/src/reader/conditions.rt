@@ -186,9 +186,7 @@ fn are_distinct(params: &[Param]) -> bool
 fn are_basic(params: &[Param]) -> bool
     ensures exact { result ≡ list_all conditions.is_basic_param params.now }
 {
-    params
-        .iter()
-        .all(|param| matches!(param.shape.shape, Shape::Text | Shape::Int))
+    params.iter().all(|param| matches!(param.shape.shape, Shape::Text | Shape::Int))
 }
 
 fn is_class(name: &Name, earlier: &[Item]) -> bool
@@ -206,11 +204,12 @@ fn is_known(shape: &Shape, earlier: &[Item]) -> bool
     }
 }
 
-fn argument_checks(arg: &Expr, shape: &Shape) -> bool
-    ensures exact { result ≡ conditions.argument_checks (out-Expr arg.now) shape.now }
+/// Whether it is a text of type `Text` or an integer of type `Int`.
+fn basic_checks(body: &Expr, shape: &Shape) -> bool
+    ensures exact { result ≡ conditions.basic_checks (out-Expr body.now) shape.now }
 {
     matches!(
-        (arg, shape),
+        (body, shape),
         (Expr::Text(_), Shape::Text) | (Expr::Int(_), Shape::Int)
     )
 }
@@ -227,7 +226,7 @@ fn arguments_check(args: &[Expr], params: &[Param]) -> bool
         let [param, more_params @ ..] = params else {
             return false;
         };
-        if !argument_checks(arg, &param.shape.shape) {
+        if !basic_checks(arg, &param.shape.shape) {
             return false;
         }
         args = more_args;
@@ -256,11 +255,10 @@ fn checks(body: &Expr, wanted: &TypeUse, earlier: &[Item]) -> bool
     ensures exact { result ≡ conditions.checks body.now wanted.now earlier.now }
 {
     match (body, &wanted.shape) {
-        (Expr::Text(_), Shape::Text) | (Expr::Int(_), Shape::Int) => true,
         (Expr::New { class, args }, Shape::Named(name)) => {
             makes(class, args.as_slice(), name, earlier)
         }
-        _ => false,
+        _ => basic_checks(body, &wanted.shape),
     }
 }
 
