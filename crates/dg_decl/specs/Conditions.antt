@@ -99,31 +99,34 @@ are_distinct (p ∷ ps) = not (has_param p.name ps) && are_distinct ps
 
 -- ---- types
 
-abbrev pub is_text_shape : Shape → Bool
-is_text_shape shape.Text = true
-is_text_shape (shape.Named n) = false
+-- `Text` and `Int` are the basic types
+abbrev pub is_basic_shape : Shape → Bool
+is_basic_shape shape.Text = true
+is_basic_shape shape.Int = true
+is_basic_shape (shape.Named n) = false
 
--- a parameter of a class is a text
-abbrev pub is_text_param : Param → Bool
-is_text_param p = is_text_shape p.shape.shape
+-- a parameter of a class is of a basic type
+abbrev pub is_basic_param : Param → Bool
+is_basic_param p = is_basic_shape p.shape.shape
 
--- `Text`, or a class that was declared before
+-- a basic type, or a class that was declared before
 abbrev pub is_known_shape : Shape → List Item → Bool
 is_known_shape shape.Text earlier = true
+is_known_shape shape.Int earlier = true
 is_known_shape (shape.Named n) earlier = is_some (params_of n earlier)
 
--- an argument has the type of its parameter
-abbrev pub argument_checks : Expr-F Expr → Shape → Bool
-argument_checks (Expr-F.Text t) shape.Text = true
-argument_checks (Expr-F.Text t) (shape.Named n) = false
-argument_checks (Expr-F.New c xs) type = false
+-- it is a text of type `Text`, or an integer of type `Int`
+abbrev pub basic_checks : Expr-F Expr → Shape → Bool
+basic_checks (Expr-F.Text t) shape.Text = true
+basic_checks (Expr-F.Int n) shape.Int = true
+basic_checks constant type = false
 
 -- as many arguments as parameters, and each of its type
 abbrev pub arguments_check : List Expr → List Param → Bool
 arguments_check [] [] = true
 arguments_check [] (p ∷ ps) = false
 arguments_check (x ∷ xs) [] = false
-arguments_check (x ∷ xs) (p ∷ ps) = argument_checks (out-Expr x) p.shape.shape && arguments_check xs ps
+arguments_check (x ∷ xs) (p ∷ ps) = basic_checks (out-Expr x) p.shape.shape && arguments_check xs ps
 
 abbrev pub fits_params : List Expr → Option (List Param) → Bool
 fits_params xs None = false
@@ -131,10 +134,8 @@ fits_params xs (Some ps) = arguments_check xs ps
 
 -- a constant has a type
 abbrev pub layer_checks : Expr-F Expr → Shape → List Item → Bool
-layer_checks (Expr-F.Text t) shape.Text earlier = true
-layer_checks (Expr-F.Text t) (shape.Named n) earlier = false
-layer_checks (Expr-F.New c xs) shape.Text earlier = false
 layer_checks (Expr-F.New c xs) (shape.Named n) earlier = bytes_eq c n && fits_params xs (params_of c earlier)
+layer_checks constant type earlier = basic_checks constant type
 
 abbrev pub checks : Expr → TypeUse → List Item → Bool
 checks e t earlier = layer_checks (out-Expr e) t.shape earlier
@@ -148,7 +149,7 @@ has_entry entry (Some class) earlier = is_some (entry_of class entry earlier)
 -- Each name that the item mentions was declared before as the kind that its place wants, the name that it declares
 -- is new, and its constant has its type. There is one module and one component at most.
 abbrev pub is_admitted : Item → List Item → Bool
-is_admitted (Class n ps) earlier = is_new n earlier && list_all is_text_param ps && are_distinct ps
+is_admitted (Class n ps) earlier = is_new n earlier && list_all is_basic_param ps && are_distinct ps
 is_admitted (Module n) earlier = is_new n earlier && not (has_some module_name earlier)
 is_admitted (Component n ms) earlier =
     is_new n earlier && not (has_some component_name earlier) && list_all (λ m. declares module_name m earlier) ms

@@ -1,7 +1,8 @@
 -- The forms of lines: which items the tokens of a line spell.
-use Rattle.std.specs.Prelude.{ℕ, zero, suc, ◌-◌, Bool, true, false, ◌&&◌, if◌then◌else◌, ◌==◌, List, [], ◌∷◌, length, take, drop, map, Option, Some, None, codes}
+use Rattle.std.specs.Prelude.{ℕ, zero, suc, ◌-◌, Bool, true, false, ◌&&◌, if◌then◌else◌, ◌==◌, List, [], ◌∷◌, length, take, drop, map, Option, Some, None, codes, ℤ}
 use Rattle.std.specs.Str.{bytes_eq}
 use denote.Enum.Bare.{sameb}
+use Rattle.dg_types.specs.declared.shape.Shape.{Shape}
 use Rattle.dg_types.specs.declared.shape.Shape.TheVariants as shape
 use Rattle.dg_types.specs.declared.shape.TypeUse.{TypeUse}
 use Rattle.dg_decl.specs.contracts.lex.token.TokenKind.{the_type}
@@ -14,7 +15,7 @@ use Rattle.dg_decl.specs.declared.item.Item.{Item}
 use Rattle.dg_decl.specs.declared.item.Item.TheVariants.{Class, Module, Component, Provides, Entry, End, OpenLine, AskLine}
 use Rattle.dg_decl.specs.declared.item.Param.{Param}
 use Rattle.dg_decl.specs.Bytes.{Bytes}
-use Rattle.dg_decl.specs.Tokens.{spelling_of}
+use Rattle.dg_decl.specs.Tokens.{spelling_of, is_integer, value_of_integer}
 
 -- a token with the bytes that it takes of its line
 pub record Lexeme : Type 0 where
@@ -67,6 +68,11 @@ taken kind spelling ls = if comes kind spelling ls then Some (tt, drop 1 ls) els
 unfoldable pub eaten : TokenKind → Bytes → Reader Bool
 eaten kind spelling ls = if comes kind spelling ls then Some (true, drop 1 ls) else Some (false, ls)
 
+-- whether a lexeme of this kind comes next
+unfoldable pub comes_kind : TokenKind → List Lexeme → Bool
+comes_kind kind [] = false
+comes_kind kind (l ∷ ls) = sameb the_type l.kind kind
+
 -- the spelling of the next lexeme, which is of this kind
 unfoldable pub spelled : TokenKind → Reader Bytes
 spelled kind [] = None
@@ -98,6 +104,11 @@ value_of_text z = unescaped false (take (length z - 2) (drop 1 z))
 unfoldable pub text : Reader Bytes
 text = spelled kind.Text >>= λ z. pure (value_of_text z)
 
+-- an integer by its value. What a line spells as a lexeme of this kind is an integer, so the test is for other lists of
+-- lexemes alone
+unfoldable pub integer : Reader ℤ
+integer = spelled kind.Integer >>= λ z. if is_integer z then pure (value_of_integer z) else nothing
+
 -- ---- lists: one member or more with commas between, at most so many
 
 abbrev pub list_limit : ℕ
@@ -119,11 +130,15 @@ in_parentheses member = do
 
 -- ---- types, parameters and constants
 
--- TYPE = Text | N
+-- the type of this name
+abbrev pub shape_named : Bytes → Shape
+shape_named n = if bytes_eq n (codes "Text") then shape.Text else (if bytes_eq n (codes "Int") then shape.Int else shape.Named n)
+
+-- TYPE = Text | Int | N
 unfoldable pub type_use : Reader TypeUse
 type_use = do
   n ← name
-  pure (record { shape = if bytes_eq n (codes "Text") then shape.Text else shape.Named n })
+  pure (record { shape = shape_named n })
 
 -- N : TYPE
 unfoldable pub param : Reader Param
@@ -140,15 +155,23 @@ params = in_parentheses param
 unfoldable pub text_constant : Reader Expr
 text_constant = text >>= λ t. pure (expr.Text t)
 
--- the arguments of `new`, each of them a text, since each parameter of a class is one
-unfoldable pub arguments : Reader (List Expr)
-arguments = in_parentheses text_constant
+-- an integer as a constant
+unfoldable pub integer_constant : Reader Expr
+integer_constant = integer >>= λ n. pure (expr.Int n)
 
--- CONST = text | new N(CONSTS)
+-- BASIC = text | integer
+unfoldable pub basic_constant : Reader Expr
+basic_constant ls = if comes_kind kind.Integer ls then integer_constant ls else text_constant ls
+
+-- the arguments of `new`: texts and integers, since each parameter of a class is one of these
+unfoldable pub arguments : Reader (List Expr)
+arguments = in_parentheses basic_constant
+
+-- CONST = BASIC | new N(BASICS)
 unfoldable pub constant : Reader Expr
 constant = do
   is_object ← eaten kind.Word (codes "new")
-  if is_object then (name >>= λ c. arguments >>= λ xs. pure (expr.New c xs)) else text_constant
+  if is_object then (name >>= λ c. arguments >>= λ xs. pure (expr.New c xs)) else basic_constant
 
 -- ---- items
 

@@ -65,16 +65,16 @@ entry_of class entry items = first (entry_in class entry) (placed items)
 
 abbrev pub same_shape : Shape → Shape → Bool
 same_shape shape.Text shape.Text = true
-same_shape shape.Text (shape.Named n) = false
-same_shape (shape.Named m) shape.Text = false
+same_shape shape.Int shape.Int = true
 same_shape (shape.Named m) (shape.Named n) = bytes_eq m n
+same_shape s t = false
 
 abbrev pub same_type : TypeUse → TypeUse → Bool
 same_type s t = same_shape s.shape t.shape
 
--- a binding: the module and the name of its `provides` line, and the body that the line gives
+-- a binding: the module that owns it, the name of its `provides` line, and the body that the line gives
 pub record Binding : Type 0 where
-  pub «module» : Bytes
+  pub owner : Bytes
   pub name : Bytes
   pub body : Expr
 
@@ -86,7 +86,7 @@ module_in modules None = None
 
 -- the binding of a `provides` line that gives this type, where it stands in a module
 abbrev pub binding_of : TypeUse → Option Bytes → Item → Option Binding
-binding_of type (Some m) (Provides n t b) = if same_type t type then Some (record { «module» = m; name = n; body = b }) else None
+binding_of type (Some m) (Provides n t b) = if same_type t type then Some (record { owner = m; name = n; body = b }) else None
 binding_of type m item = None
 
 abbrev pub binding_in : List Bytes → TypeUse → Option Item × Item → Option Binding

@@ -1,5 +1,5 @@
 -- Tokens of a line: from the left, each the longest that begins at its place.
-use Rattle.std.specs.Prelude.{ℕ, zero, suc, ◌+◌, ◌-◌, ◌*◌, ◌^◌, Bool, true, false, not, ◌&&◌, ◌||◌, if◌then◌else◌, ◌==◌, nat_lt, nat_le, List, [], ◌∷◌, length, take, drop, fold, slice_index, Option, Some, None, Result, Ok, Err, codes}
+use Rattle.std.specs.Prelude.{ℕ, zero, suc, ◌+◌, ◌-◌, ◌*◌, ◌^◌, Bool, true, false, not, ◌&&◌, ◌||◌, if◌then◌else◌, ◌==◌, nat_lt, nat_le, List, [], ◌∷◌, length, take, drop, fold, slice_index, Option, Some, None, Result, Ok, Err, codes, ℤ, pos, neg_ℤ}
 use Rattle.std.specs.Char.{is_ascii_alphabetic, is_ascii_digit}
 use Rattle.std.specs.List.{prefix_len, list_all, list_any}
 use Rattle.std.specs.Str.{bytes_eq}
@@ -35,6 +35,10 @@ is_integer z =
     bytes_eq z (codes "0")
     || (is_counting z && nat_lt (value_of_digits z) (2 ^ 63))
     || (slice_index z 0 == 45 && is_counting (drop 1 z) && nat_le (value_of_digits (drop 1 z)) (2 ^ 63))
+
+-- the number that an integer writes: with `-` in front, the negative of the number that its digits write
+unfoldable pub value_of_integer : Bytes → ℤ
+value_of_integer z = if slice_index z 0 == 45 then neg_ℤ (pos (value_of_digits (drop 1 z))) else pos (value_of_digits z)
 
 -- what stands behind the opening quote of a text, up to its closing quote, which ends it: plain bytes, in which
 -- `\` stands before `"` and `\` alone, and `"` behind `\` alone. The first argument: the byte before is such a `\`

@@ -6,6 +6,8 @@ use sqlite_items::Items;
 pub enum Expr {
     /// A text, by its value.
     Text(Text),
+    /// An integer.
+    Int(i64),
     /// A new object of the class, with its fields in declared order.
     New { class: Name, args: Items<Expr> },
 }

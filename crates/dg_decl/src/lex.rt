@@ -1,11 +1,13 @@
 //! Tokens of a line.
 
 mod extent;
+mod integer;
 mod kind;
 mod number;
 mod scan;
 mod token;
 
+pub use integer::value_of_integer;
 pub use scan::{spelling, tokens};
 pub use token::{LexFault, Token, TokenKind};
 

@@ -9,7 +9,7 @@ use Rattle.dg_decl.specs.declared.expression.Expr.{Expr, Expr-F, out-Expr}
 use Rattle.dg_decl.specs.declared.item.Item.{Item}
 use Rattle.dg_decl.specs.declared.item.Item.TheVariants.{Class, Module, Component, Provides, Entry, End, OpenLine, AskLine}
 use Rattle.dg_decl.specs.Bytes.{Bytes, line_end}
-use Rattle.dg_top.specs.Evaluation.{Place, same_place, Value, Words, Object, layer_value, evaluate, body_of_ask, value_of_ask}
+use Rattle.dg_top.specs.Evaluation.{Place, same_place, Value, Plain, Object, layer_value, evaluate, body_of_ask, value_of_ask}
 use Rattle.dg_top.specs.Printing.{new_text, object_count}
 use Rattle.dg_top.specs.Report.{printed, reply_line, reply, replies, ask_in, asks_of, report}
 
@@ -40,34 +40,35 @@ never_before p ps before = rw (none_such p ps before, le-ltb (length ps) (length
 -- ---- the value of an ask
 
 abbrev IsOf : ℕ → Value → Type 0
-IsOf n (Words z) = Unit {0}
+IsOf n (Plain basic) = Unit {0}
 IsOf n (Object class identity fields) = identity.ask ≡ n
 
 layer_is_of : (items : List Item) (n : ℕ) (layer : Expr-F Expr) → IsOf n (layer_value items n layer)
 layer_is_of items n (Expr-F.Text t) = tt
+layer_is_of items n (Expr-F.Int k) = tt
 layer_is_of items n (Expr-F.New c xs) = refl
 
 -- what has appeared behind a value whose objects are new
 abbrev pub appeared_behind : List Place → Value → List Place
-appeared_behind ps (Words z) = ps
+appeared_behind ps (Plain basic) = ps
 appeared_behind ps (Object class identity fields) = ps ++ identity ∷ []
 
 print_new : (n : ℕ) (ps : List Place) (v : Value) → IsOf n v → AreBefore n ps → printed ps v ≡ (new_text (length ps) v, appeared_behind ps v)
-print_new n ps (Words z) is before = refl
+print_new n ps (Plain basic) is before = refl
 print_new n ps (Object class identity fields) is before =
     let none = never_before identity ps (subst (λ (m : ℕ). AreBefore m ps) (sym is) before) in
     rw none refl
 
 pub count_new : (ps : List Place) (v : Value) → length (appeared_behind ps v) ≡ length ps + object_count v
-count_new ps (Words z) = omega arith
+count_new ps (Plain basic) = omega arith
 count_new ps (Object class identity fields) = length_push ps identity
 
 before_next : (n : ℕ) (ps : List Place) (v : Value) → IsOf n v → AreBefore n ps → AreBefore (n + 1) (appeared_behind ps v)
-before_next n ps (Words z) is before = still_before n ps before
+before_next n ps (Plain basic) is before = still_before n ps before
 before_next n ps (Object class identity fields) is before = one_before (n + 1) ps identity (still_before n ps before) (omega (arith, is))
 
 one_at_most : (v : Value) → object_count v ≤ 1
-one_at_most (Words z) = omega arith
+one_at_most (Plain basic) = omega arith
 one_at_most (Object class identity fields) = omega arith
 
 -- ---- replies

@@ -10,23 +10,23 @@ use Rattle.dg_decl.specs.declared.expression.Expr.TheVariants.{outs-New}
 use Rattle.dg_decl.specs.declared.item.Item.{Item}
 use Rattle.dg_decl.specs.declared.item.Param.{Param}
 use Rattle.dg_decl.specs.Bytes.{Bytes, line_end}
-use Rattle.dg_top.specs.Evaluation.{text_of, fields_of, evaluate}
+use Rattle.dg_top.specs.Evaluation.{Basic, basic_of, fields_of, evaluate}
 use Rattle.dg_top.specs.Printing.{later_fields, new_text, object_text, object_count}
 use Rattle.dg_top.specs.Report.{field_text, field_list, value_limit, cut}
 
 -- ---- fields
 
-pub first_field : (f : Bytes × Bytes) (fs : List (Bytes × Bytes)) → field_list (f ∷ fs) ≡ field_text f ++ later_fields fs
+pub first_field : (f : Bytes × Basic) (fs : List (Bytes × Basic)) → field_list (f ∷ fs) ≡ field_text f ++ later_fields fs
 first_field f [] = sym (append-nil (field_text f))
 first_field f (g ∷ fs) = ap (λ (z : Bytes). field_text f ++ (44 ∷ z)) (first_field g fs)
 
 -- the first parameter and argument, and the others
 pub first_then : (ps : List Param) (xs : List Expr) (p : Param) (x : Expr) → 1 ≤ length ps → p ≡ get_or ps 0 p → 1 ≤ length xs → x ≡ get_or xs 0 x
-    → field_list (fields_of ps xs) ≡ field_text (p.name, text_of x) ++ later_fields (fields_of (take (length ps - 1) (drop 1 ps)) (take (length xs - 1) (drop 1 xs)))
+    → field_list (fields_of ps xs) ≡ field_text (p.name, basic_of x) ++ later_fields (fields_of (take (length ps - 1) (drop 1 ps)) (take (length xs - 1) (drop 1 xs)))
 first_then [] xs p x some here more there = absurd (omega arith)
 first_then (q ∷ ps) [] p x some here more there = absurd (omega arith)
 first_then (q ∷ ps) (y ∷ xs) p x some here more there =
-    rw (take_rest (q ∷ ps) 1, take_rest (y ∷ xs) 1, here, there) (first_field (q.name, text_of y) (fields_of ps xs))
+    rw (take_rest (q ∷ ps) 1, take_rest (y ∷ xs) 1, here, there) (first_field (q.name, basic_of y) (fields_of ps xs))
 
 -- ---- a value that is too long
 

@@ -1,5 +1,5 @@
 -- What an ask gives, by looking its entry point up in the declarations.
-use Rattle.std.specs.Prelude.{ℕ, Bool, ◌&&◌, ◌==◌, List, [], ◌∷◌, Option, unwrap_or, option_and_then}
+use Rattle.std.specs.Prelude.{ℕ, Bool, ◌&&◌, ◌==◌, List, [], ◌∷◌, Option, unwrap_or, option_and_then, ℤ}
 use Rattle.std.specs.Option.{option_map}
 use Rattle.dg_types.specs.declared.shape.TypeUse.{TypeUse}
 use Rattle.dg_decl.specs.declared.expression.Expr.{Expr, Expr-F, out-Expr}
@@ -18,27 +18,34 @@ pub record Place : Type 0 where
 abbrev pub same_place : Place → Place → Bool
 same_place p q = p.ask == q.ask && p.made == q.made
 
--- a text, or an object: its class, its identity, and its fields by name, each of them a text
+-- a value of a basic type: a text or an integer
+pub data Basic : Type 0 where
+  Words : Bytes → Basic
+  Number : ℤ → Basic
+
+-- a basic value, or an object: its class, its identity, and its fields by name
 pub data Value : Type 0 where
-  Words : Bytes → Value
-  Object : (class : Bytes) → (identity : Place) → (fields : List (Bytes × Bytes)) → Value
+  Plain : Basic → Value
+  Object : (class : Bytes) → (identity : Place) → (fields : List (Bytes × Basic)) → Value
 
--- a text as an argument; no other argument has the type of a parameter
-abbrev pub text_in : Expr-F Expr → Bytes
-text_in (Expr-F.Text t) = t
-text_in (Expr-F.New c xs) = []
+-- a text or an integer as an argument; no other argument has the type of a parameter
+abbrev pub basic_in : Expr-F Expr → Basic
+basic_in (Expr-F.Text t) = Words t
+basic_in (Expr-F.Int n) = Number n
+basic_in (Expr-F.New c xs) = Words []
 
-abbrev pub text_of : Expr → Bytes
-text_of x = text_in (out-Expr x)
+abbrev pub basic_of : Expr → Basic
+basic_of x = basic_in (out-Expr x)
 
 -- each parameter with its argument
-abbrev pub fields_of : List Param → List Expr → List (Bytes × Bytes)
+abbrev pub fields_of : List Param → List Expr → List (Bytes × Basic)
 fields_of [] xs = []
 fields_of (p ∷ ps) [] = []
-fields_of (p ∷ ps) (x ∷ xs) = (p.name, text_of x) ∷ fields_of ps xs
+fields_of (p ∷ ps) (x ∷ xs) = (p.name, basic_of x) ∷ fields_of ps xs
 
 abbrev pub layer_value : List Item → ℕ → Expr-F Expr → Value
-layer_value items ask (Expr-F.Text t) = Words t
+layer_value items ask (Expr-F.Text t) = Plain (Words t)
+layer_value items ask (Expr-F.Int n) = Plain (Number n)
 layer_value items ask (Expr-F.New c xs) = Object c (record { ask = ask; made = 1 }) (fields_of (unwrap_or (params_of c items) []) xs)
 
 -- a constant, evaluated for an ask

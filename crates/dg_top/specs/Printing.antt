@@ -4,17 +4,17 @@ use Rattle.dg_decl.specs.declared.expression.Expr.{Expr}
 use Rattle.dg_decl.specs.declared.item.Item.{Item}
 use Rattle.dg_decl.specs.Lookup.{params_of}
 use Rattle.dg_decl.specs.Bytes.{Bytes}
-use Rattle.dg_top.specs.Evaluation.{Value, Words, Object, fields_of}
-use Rattle.dg_top.specs.Report.{quoted, field_text, fields_text, numbered, reply_line}
+use Rattle.dg_top.specs.Evaluation.{Basic, Value, Plain, Object, fields_of}
+use Rattle.dg_top.specs.Report.{basic_text, field_text, fields_text, numbered, reply_line}
 
 -- the fields behind the first, each with a comma before it
-abbrev pub later_fields : List (Bytes × Bytes) → Bytes
+abbrev pub later_fields : List (Bytes × Basic) → Bytes
 later_fields [] = []
 later_fields (f ∷ fs) = 44 ∷ field_text f ++ later_fields fs
 
 -- the text of a value, where so many objects have appeared and its own haven't
 abbrev pub new_text : ℕ → Value → Bytes
-new_text count (Words z) = quoted z
+new_text count (Plain basic) = basic_text basic
 new_text count (Object class identity fields) = numbered class (count + 1) ++ fields_text fields
 
 -- the text of a new object of this class, with this number
@@ -23,7 +23,7 @@ object_text items class args number = numbered class number ++ fields_text (fiel
 
 -- how many objects a value has
 abbrev pub object_count : Value → ℕ
-object_count (Words z) = 0
+object_count (Plain basic) = 0
 object_count (Object class identity fields) = 1
 
 -- new is old and the text of the value, and count of the objects that have appeared goes up by those of the value

@@ -1,10 +1,11 @@
 -- What is written for a document that is read.
 use Rattle.std.specs.Prelude.{ℕ, ◌+◌, ◌||◌, if◌then◌else◌, ◌==◌, nat_le, List, [], ◌∷◌, ◌++◌, length, take, map, position, Option, Some, None, codes, decimal}
+use Rattle.std.specs.Fmt.{signed_decimal}
 use Rattle.std.specs.List.{flat_map, filter_map, join_with_byte}
 use Rattle.dg_decl.specs.declared.item.Item.{Item}
 use Rattle.dg_decl.specs.declared.item.Item.TheVariants.{AskLine}
 use Rattle.dg_decl.specs.Bytes.{Bytes, line_end}
-use Rattle.dg_top.specs.Evaluation.{Place, same_place, Value, Words, Object, value_of_ask}
+use Rattle.dg_top.specs.Evaluation.{Place, same_place, Basic, Words, Number, Value, Plain, Object, value_of_ask}
 
 -- ---- values
 
@@ -15,16 +16,21 @@ escaped b = if b == 34 || b == 92 then 92 ∷ b ∷ [] else b ∷ []
 unfoldable pub quoted : Bytes → Bytes
 quoted z = 34 ∷ flat_map escaped z ++ 34 ∷ []
 
+-- a text in quotes, or an integer in decimal, with `-` in front where it is negative
+abbrev pub basic_text : Basic → Bytes
+basic_text (Words z) = quoted z
+basic_text (Number n) = signed_decimal n
+
 -- `f=v`
-abbrev pub field_text : Bytes × Bytes → Bytes
-field_text field = field.0 ++ 61 ∷ quoted field.1
+abbrev pub field_text : Bytes × Basic → Bytes
+field_text field = field.0 ++ 61 ∷ basic_text field.1
 
 -- `f=v,g=w`
-abbrev pub field_list : List (Bytes × Bytes) → Bytes
+abbrev pub field_list : List (Bytes × Basic) → Bytes
 field_list fields = join_with_byte 44 (map field_text fields)
 
 -- `{f=v,g=w}`
-unfoldable pub fields_text : List (Bytes × Bytes) → Bytes
+unfoldable pub fields_text : List (Bytes × Basic) → Bytes
 fields_text fields = 123 ∷ field_list fields ++ 125 ∷ []
 
 -- `C#n`
@@ -33,13 +39,13 @@ numbered class n = class ++ 35 ∷ decimal n
 
 -- What is printed of an object, and the objects that have appeared then: its number is the order of first appearance,
 -- and its fields are printed where it first appears.
-abbrev pub appearance : Bytes → Place → List (Bytes × Bytes) → List Place → Option ℕ → Bytes × List Place
+abbrev pub appearance : Bytes → Place → List (Bytes × Basic) → List Place → Option ℕ → Bytes × List Place
 appearance class identity fields appeared (Some before) = (numbered class (before + 1), appeared)
 appearance class identity fields appeared None = (numbered class (length appeared + 1) ++ fields_text fields, appeared ++ identity ∷ [])
 
 -- what is printed of a value where these objects have appeared, and the objects that have appeared then
 abbrev pub printed : List Place → Value → Bytes × List Place
-printed appeared (Words z) = (quoted z, appeared)
+printed appeared (Plain basic) = (basic_text basic, appeared)
 printed appeared (Object class identity fields) = appearance class identity fields appeared (position (same_place identity) appeared)
 
 -- the most bytes that are printed of a value

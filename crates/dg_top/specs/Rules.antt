@@ -1,11 +1,11 @@
 -- The rules of bindings: what a document breaks, and the line that says so.
-use Rattle.std.specs.Prelude.{ℕ, List, [], ◌∷◌, ◌++◌, map, Option, Some, None, unwrap_or, option_and_then, codes}
+use Rattle.std.specs.Prelude.{List, [], ◌∷◌, ◌++◌, map, Option, Some, None, unwrap_or, option_and_then, codes}
 use Rattle.std.specs.List.{filter_map, flat_map}
 use Rattle.dg_types.specs.declared.shape.Shape.{Shape}
 use Rattle.dg_types.specs.declared.shape.Shape.TheVariants as shape
 use Rattle.dg_types.specs.declared.shape.TypeUse.{TypeUse}
 use Rattle.dg_decl.specs.declared.item.Item.{Item}
-use Rattle.dg_decl.specs.declared.item.Item.TheVariants.{Class, Module, Component, Provides, Entry, End, OpenLine, AskLine}
+use Rattle.dg_decl.specs.declared.item.Item.TheVariants.{Entry}
 use Rattle.dg_decl.specs.Bytes.{Bytes, line_end}
 use Rattle.dg_decl.specs.Blocks.{placed}
 use Rattle.dg_decl.specs.Conditions.{component_name}
@@ -49,10 +49,11 @@ abbrev pub site_of_request : Request → Bytes
 site_of_request r = site r.class r.class r.entry
 
 abbrev pub site_of_binding : Bytes → Binding → Bytes
-site_of_binding class b = site class b.module b.name
+site_of_binding class b = site class b.owner b.name
 
 abbrev pub key_of_shape : Shape → Bytes
 key_of_shape shape.Text = codes "Text"
+key_of_shape shape.Int = codes "Int"
 key_of_shape (shape.Named n) = n
 
 -- the key of a type is its text

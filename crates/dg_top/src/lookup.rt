@@ -82,7 +82,7 @@ fn same_shape(a: &Shape, b: &Shape) -> bool
     ensures exact { result ≡ lookup.same_shape a.now b.now }
 {
     match (a, b) {
-        (Shape::Text, Shape::Text) => true,
+        (Shape::Text, Shape::Text) | (Shape::Int, Shape::Int) => true,
         (Shape::Named(m), Shape::Named(n)) => m.is(n.as_slice()),
         _ => false,
     }
@@ -98,7 +98,7 @@ pub fn same_type(a: &TypeUse, b: &TypeUse) -> bool
 /// A binding: the module and the name of its `provides` line, and the body that the line gives. It borrows the document.
 #[derive(Drop)]
 pub struct Binding<'a> {
-    pub module: &'a Name,
+    pub owner: &'a Name,
     pub name: &'a Name,
     pub body: &'a Expr,
 }
@@ -112,28 +112,28 @@ impl<'a> Model for Binding<'a> {
 
     ghost coded = { Prim.hlevel (codes, expr.the_row.coded) };
 
-    ghost view = { λ b. record { «module» = b.module.now; name = b.name.now; body = b.body.now } };
+    ghost view = { λ b. record { owner = b.owner.now; name = b.name.now; body = b.body.now } };
 }
 
 /// The module, of these, in which the items behind this one stand, where it is known of the item itself.
-fn module_behind<'a>(module: Option<&'a Name>, item: &'a Item, modules: &[Name]) -> Option<&'a Name>
-    ensures exact { (h : Option Item) → option_copied module.entry ≡ lookup.module_in modules.now h
+fn module_behind<'a>(owner: Option<&'a Name>, item: &'a Item, modules: &[Name]) -> Option<&'a Name>
+    ensures exact { (h : Option Item) → option_copied owner.entry ≡ lookup.module_in modules.now h
         → option_copied result ≡ lookup.module_in modules.now (blocks.open_after h item.now) }
 {
     match item {
         Item::Module { name } if is_among(name.as_slice(), modules) => Some(name),
         Item::Module { .. } | Item::Component { .. } | Item::End => None,
-        _ => module,
+        _ => owner,
     }
 }
 
 /// The binding of a `provides` line that gives this type, where it stands in a module.
-fn binding_of<'a>(wanted: &TypeUse, module: Option<&'a Name>, item: &'a Item) -> Option<Binding<'a>>
-    ensures exact { result ≡ lookup.binding_of wanted.now (option_copied module.entry) item.now }
+fn binding_of<'a>(wanted: &TypeUse, owner: Option<&'a Name>, item: &'a Item) -> Option<Binding<'a>>
+    ensures exact { result ≡ lookup.binding_of wanted.now (option_copied owner.entry) item.now }
 {
-    match (module, item) {
-        (Some(module), Item::Provides { name, result, body }) if same_type(result, wanted) => {
-            Some(Binding { module, name, body })
+    match (owner, item) {
+        (Some(owner), Item::Provides { name, result, body }) if same_type(result, wanted) => {
+            Some(Binding { owner, name, body })
         }
         _ => None,
     }
@@ -143,12 +143,12 @@ fn binding_of<'a>(wanted: &TypeUse, module: Option<&'a Name>, item: &'a Item) ->
 pub fn first_body<'a>(modules: &[Name], wanted: &TypeUse, items: &'a [Item]) -> Option<&'a Expr>
     ensures exact { option_copied result ≡ evaluation.first_body modules.now wanted.now items.now }
 {
-    let mut module = None;
+    let mut owner = None;
     for item in items {
-        if let Some(binding) = binding_of(wanted, module, item) {
+        if let Some(binding) = binding_of(wanted, owner, item) {
             return Some(binding.body);
         }
-        module = module_behind(module, item, modules);
+        owner = module_behind(owner, item, modules);
     }
     None
 }
@@ -163,12 +163,12 @@ pub fn bindings<'a>(
     ensures exact { IfOk result (λ found. found.items ≡ lookup.bindings modules.now wanted.now items.now) }
 {
     let mut found = Vec::new(alloc);
-    let mut module = None;
+    let mut owner = None;
     for item in items {
-        if let Some(binding) = binding_of(wanted, module, item) {
+        if let Some(binding) = binding_of(wanted, owner, item) {
             found.push(binding)?;
         }
-        module = module_behind(module, item, modules);
+        owner = module_behind(owner, item, modules);
     }
     Ok(found)
 }

@@ -1,6 +1,7 @@
 //! What is written for a document that is read.
 
 ghost use Rattle.std.specs.Prelude.{◌≡◌, ◌++◌, ◌≤◌, ◌<◌, ◌^◌, ◌-◌, ◌+◌, ℕ, IfOk, OnOk, OnErr, decimal, take, drop, length, vec_len};
+ghost use Rattle.std.specs.Fmt.{signed_decimal};
 ghost use Rattle.std.specs.Option.{option_copied};
 ghost use Rattle.dg_top.specs.Evaluation as evaluation;
 ghost use Rattle.dg_top.specs.Printing as printing;
@@ -36,6 +37,14 @@ fn push_decimal(out: &mut Vec<u8>, n: usize) -> Result<(), NoMemory>
     Ok(())
 }
 
+fn push_integer(out: &mut Vec<u8>, n: i64) -> Result<(), NoMemory>
+    ensures exact { OnOk result (out.new.items ≡ out.old.items ++ signed_decimal n) }
+{
+    let mut buffer = Buffer::new();
+    out.extend_from_slice(buffer.format(n).as_bytes())?;
+    Ok(())
+}
+
 fn push_escaped(out: &mut Vec<u8>, b: u8) -> Result<(), NoMemory>
     ensures exact { OnOk result (out.new.items ≡ out.old.items ++ spec.escaped b) }
 {
@@ -60,17 +69,18 @@ fn push_quoted(out: &mut Vec<u8>, text: &[u8]) -> Result<(), NoMemory>
 }
 
 fn push_argument(out: &mut Vec<u8>, arg: &Expr) -> Result<(), NoMemory>
-    ensures exact { OnOk result (out.new.items ≡ out.old.items ++ spec.quoted (evaluation.text_of arg.now)) }
+    ensures exact { OnOk result (out.new.items ≡ out.old.items ++ spec.basic_text (evaluation.basic_of arg.now)) }
 {
     match arg {
         Expr::Text(text) => push_quoted(out, text.as_slice()),
+        Expr::Int(n) => push_integer(out, *n),
         Expr::New { .. } => push_quoted(out, &[]),
     }
 }
 
 /// Prints one field, `f=v`.
 fn push_field(out: &mut Vec<u8>, param: &Param, arg: &Expr) -> Result<(), NoMemory>
-    ensures exact { OnOk result (out.new.items ≡ out.old.items ++ spec.field_text (param.now.name, evaluation.text_of arg.now)) }
+    ensures exact { OnOk result (out.new.items ≡ out.old.items ++ spec.field_text (param.now.name, evaluation.basic_of arg.now)) }
 {
     out.extend_from_slice(param.name.as_slice())?;
     out.push(b'=')?;
@@ -157,6 +167,10 @@ fn push_value(
     match body {
         Expr::Text(text) => {
             push_quoted(out, text.as_slice())?;
+            Ok(objects)
+        }
+        Expr::Int(n) => {
+            push_integer(out, *n)?;
             Ok(objects)
         }
         Expr::New { class, args } => {

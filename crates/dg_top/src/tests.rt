@@ -156,7 +156,7 @@ fn bad_lines_are_named_by_their_number(rt: HostRuntime) -> Result<(), Fail> {
     let header = b"component App {\n".as_slice();
     let cases = [
         (b"}\n".as_slice(), b"bad line 1\n".as_slice()),
-        (b"\n\nclass A(a: Int)\n", b"bad line 3\n"),
+        (b"\n\nclass A(a: Db)\n", b"bad line 3\n"),
         (b"class A()\nclass A()\n", b"bad line 2\n"),
         (header, b"bad line 2\n"),
         (b"ask a.db\n", b"bad line 1\n"),
@@ -166,6 +166,84 @@ fn bad_lines_are_named_by_their_number(rt: HostRuntime) -> Result<(), Fail> {
         assert_eq!(rt; status, Status::BadLine);
         assert_eq!(rt; sink.bytes(), reply);
     }
+    Ok(())
+}
+
+/// A document whose entry point gives this constant of this type, behind these classes.
+fn with_constant(
+    alloc: Global,
+    classes: &[u8],
+    shape: &[u8],
+    constant: &[u8],
+) -> Result<Vec<u8>, AllocError> {
+    let mut text = classes.to_vec(alloc)?;
+    text.extend_from_slice(b"module M {\n  provides c() : ")?;
+    text.extend_from_slice(shape)?;
+    text.extend_from_slice(b" = ")?;
+    text.extend_from_slice(constant)?;
+    text.extend_from_slice(b"\n}\ncomponent App modules M {\n  entry c : ")?;
+    text.extend_from_slice(shape)?;
+    text.extend_from_slice(b"\n}\nopen a : App\nask a.c\n")?;
+    Ok(text)
+}
+
+#[test]
+fn integers_are_constants(rt: HostRuntime) -> Result<(), Fail> {
+    let good = [
+        (b"0".as_slice(), b"1 0\ncells 0\n".as_slice()),
+        (b"-1", b"1 -1\ncells 0\n"),
+        (b"9223372036854775807", b"1 9223372036854775807\ncells 0\n"),
+        (
+            b"-9223372036854775808",
+            b"1 -9223372036854775808\ncells 0\n",
+        ),
+    ];
+    for (constant, reply) in good {
+        let text = with_constant(rt.alloc(), b"", b"Int", constant)?;
+        let (status, sink) = run(rt.alloc(), &[], text.as_slice(), calm(4096))?;
+        assert_eq!(rt; status, Status::Ran);
+        assert_eq!(rt; sink.bytes(), reply);
+    }
+    let bad = [
+        b"-0".as_slice(),
+        b"00",
+        b"9223372036854775808",
+        b"-9223372036854775809",
+        b"1x",
+        b"1_",
+    ];
+    for constant in bad {
+        let text = with_constant(rt.alloc(), b"", b"Int", constant)?;
+        let (status, sink) = run(rt.alloc(), &[], text.as_slice(), calm(4096))?;
+        assert_eq!(rt; status, Status::BadLine);
+        assert_eq!(rt; sink.bytes(), b"bad line 2\n".as_slice());
+    }
+    Ok(())
+}
+
+#[test]
+fn fields_are_texts_and_integers(rt: HostRuntime) -> Result<(), Fail> {
+    let class = b"class P(name: Text, age: Int)\n".as_slice();
+    let cases = [
+        (
+            b"new P(\"a\", -7)".as_slice(),
+            Status::Ran,
+            b"1 P#1{name=\"a\",age=-7}\ncells 0\n".as_slice(),
+        ),
+        (b"new P(\"a\", \"7\")", Status::BadLine, b"bad line 3\n"),
+        (b"new P(1, 7)", Status::BadLine, b"bad line 3\n"),
+        (b"7", Status::BadLine, b"bad line 3\n"),
+    ];
+    for (constant, ends, reply) in cases {
+        let text = with_constant(rt.alloc(), class, b"P", constant)?;
+        let (status, sink) = run(rt.alloc(), &[], text.as_slice(), calm(4096))?;
+        assert_eq!(rt; status, ends);
+        assert_eq!(rt; sink.bytes(), reply);
+    }
+    let text = with_constant(rt.alloc(), b"", b"Text", b"7")?;
+    let (status, sink) = run(rt.alloc(), &[], text.as_slice(), calm(4096))?;
+    assert_eq!(rt; status, Status::BadLine);
+    assert_eq!(rt; sink.bytes(), b"bad line 2\n".as_slice());
     Ok(())
 }
 

@@ -5,6 +5,8 @@ use crate::name::Name;
 pub enum Shape {
     /// Text of bytes 32 to 126.
     Text,
+    /// An integer of 64 bits, signed.
+    Int,
     /// The class of this name.
     Named(Name),
 }

@@ -78,7 +78,7 @@ fn is_at_most(digits: &[u8], limit: u64) -> bool
 }
 
 #[tactic(auto, unfolding(crate::specs::Tokens::is_integer))]
-fn is_integer(z: &[u8]) -> bool
+pub fn is_integer(z: &[u8]) -> bool
     ensures exact { result ≡ spec.is_integer z.now }
 {
     if let [b'-', digits @ ..] = z {

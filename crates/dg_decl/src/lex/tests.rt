@@ -1,5 +1,5 @@
 use crate::lex::token::TokenKind::{AtName, Integer, Name, Sign, Text, Word};
-use crate::lex::{LexFault, Token, TokenKind, spelling, tokens};
+use crate::lex::{LexFault, Token, TokenKind, spelling, tokens, value_of_integer};
 use std::test::Fail;
 
 /// A kind, and the places `from` and `to`.
@@ -105,4 +105,23 @@ fn a_token_takes_its_bytes_of_the_line(rt: HostRuntime) -> Result<(), Fail> {
     };
     assert_eq!(rt; spelling(line, &past), b"ain".as_slice());
     Ok(())
+}
+
+#[test]
+fn integers_have_these_numbers(rt: HostRuntime) {
+    let rows = [
+        (b"0".as_slice(), Some(0)),
+        (b"7", Some(7)),
+        (b"-12", Some(-12)),
+        (b"9223372036854775807", Some(i64::MAX)),
+        (b"-9223372036854775808", Some(i64::MIN)),
+        (b"9223372036854775808", None),
+        (b"-9223372036854775809", None),
+        (b"-0", None),
+        (b"", None),
+        (b"1x", None),
+    ];
+    for (z, number) in rows {
+        assert_eq!(rt; value_of_integer(z), number);
+    }
 }

@@ -183,12 +183,10 @@ fn are_distinct(params: &[Param]) -> bool
     true
 }
 
-fn are_texts(params: &[Param]) -> bool
-    ensures exact { result ≡ list_all conditions.is_text_param params.now }
+fn are_basic(params: &[Param]) -> bool
+    ensures exact { result ≡ list_all conditions.is_basic_param params.now }
 {
-    params
-        .iter()
-        .all(|param| matches!(param.shape.shape, Shape::Text))
+    params.iter().all(|param| matches!(param.shape.shape, Shape::Text | Shape::Int))
 }
 
 fn is_class(name: &Name, earlier: &[Item]) -> bool
@@ -201,15 +199,19 @@ fn is_known(shape: &Shape, earlier: &[Item]) -> bool
     ensures exact { result ≡ conditions.is_known_shape shape.now earlier.now }
 {
     match shape {
-        Shape::Text => true,
+        Shape::Text | Shape::Int => true,
         Shape::Named(name) => is_class(name, earlier),
     }
 }
 
-fn argument_checks(arg: &Expr, shape: &Shape) -> bool
-    ensures exact { result ≡ conditions.argument_checks (out-Expr arg.now) shape.now }
+/// Whether it is a text of type `Text` or an integer of type `Int`.
+fn basic_checks(body: &Expr, shape: &Shape) -> bool
+    ensures exact { result ≡ conditions.basic_checks (out-Expr body.now) shape.now }
 {
-    matches!((arg, shape), (Expr::Text(_), Shape::Text))
+    matches!(
+        (body, shape),
+        (Expr::Text(_), Shape::Text) | (Expr::Int(_), Shape::Int)
+    )
 }
 
 fn arguments_check(args: &[Expr], params: &[Param]) -> bool
@@ -224,7 +226,7 @@ fn arguments_check(args: &[Expr], params: &[Param]) -> bool
         let [param, more_params @ ..] = params else {
             return false;
         };
-        if !argument_checks(arg, &param.shape.shape) {
+        if !basic_checks(arg, &param.shape.shape) {
             return false;
         }
         args = more_args;
@@ -253,11 +255,10 @@ fn checks(body: &Expr, wanted: &TypeUse, earlier: &[Item]) -> bool
     ensures exact { result ≡ conditions.checks body.now wanted.now earlier.now }
 {
     match (body, &wanted.shape) {
-        (Expr::Text(_), Shape::Text) => true,
         (Expr::New { class, args }, Shape::Named(name)) => {
             makes(class, args.as_slice(), name, earlier)
         }
-        _ => false,
+        _ => basic_checks(body, &wanted.shape),
     }
 }
 
@@ -278,7 +279,7 @@ pub fn is_admitted(item: &Item, members: &[Item], earlier: &[Item]) -> bool
     match item {
         Item::Class { name, params } => {
             is_new(name.as_slice(), earlier)
-                && are_texts(params.as_slice())
+                && are_basic(params.as_slice())
                 && are_distinct(params.as_slice())
         }
         Item::Module { name } => is_new(name.as_slice(), earlier) && !has_module(earlier),

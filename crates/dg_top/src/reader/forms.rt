@@ -7,7 +7,7 @@ ghost use Rattle.dg_top.specs.declared.reader.fault.FormFault.TheVariants as fau
 
 use crate::reader::fault::FormFault;
 use crate::reader::lexemes::Lexemes;
-use dg_decl::lex::TokenKind;
+use dg_decl::lex::{TokenKind, value_of_integer};
 use dg_decl::{Expr, Item, Param};
 use dg_types::{Name, NoMemory, Shape, Text, TypeUse};
 use sqlite_items::Items;
@@ -76,17 +76,37 @@ fn text(alloc: Global, tokens: &mut Lexemes<'_>) -> Result<Text, FormFault>
     Ok(value_of_text(alloc, tokens.spelled(TokenKind::Text)?)?)
 }
 
+#[tactic(auto, unfolding(dg_decl::specs::Forms::integer))]
+fn integer(tokens: &mut Lexemes<'_>) -> Result<i64, FormFault>
+    ensures exact { Gives (forms.integer tokens.old) result tokens.new }
+{
+    match value_of_integer(tokens.spelled(TokenKind::Integer)?) {
+        Some(n) => Ok(n),
+        None => Err(FormFault::NoForm),
+    }
+}
+
+/// The type of this name.
+fn shape_named(name: Name) -> Shape
+    ensures exact { result ≡ forms.shape_named name }
+{
+    if name.is(b"Text") {
+        Shape::Text
+    } else if name.is(b"Int") {
+        Shape::Int
+    } else {
+        Shape::Named(name)
+    }
+}
+
 #[tactic(auto, unfolding(dg_decl::specs::Forms::type_use))]
 fn type_use(alloc: Global, tokens: &mut Lexemes<'_>) -> Result<TypeUse, FormFault>
     ensures exact { Gives (forms.type_use tokens.old) result tokens.new }
 {
     let name = name(alloc, tokens)?;
-    let shape = if name.is(b"Text") {
-        Shape::Text
-    } else {
-        Shape::Named(name)
-    };
-    Ok(TypeUse { shape })
+    Ok(TypeUse {
+        shape: shape_named(name),
+    })
 }
 
 #[tactic(auto, unfolding(dg_decl::specs::Forms::param))]
@@ -133,13 +153,31 @@ fn text_constant(alloc: Global, tokens: &mut Lexemes<'_>) -> Result<Expr, FormFa
     Ok(Expr::Text(text(alloc, tokens)?))
 }
 
-/// One text or more, with commas between, at most `LIST_LIMIT`.
+#[tactic(auto, unfolding(dg_decl::specs::Forms::integer_constant))]
+fn integer_constant(tokens: &mut Lexemes<'_>) -> Result<Expr, FormFault>
+    ensures exact { Gives (forms.integer_constant tokens.old) result tokens.new }
+{
+    Ok(Expr::Int(integer(tokens)?))
+}
+
+#[tactic(auto, unfolding(dg_decl::specs::Forms::basic_constant))]
+fn basic_constant(alloc: Global, tokens: &mut Lexemes<'_>) -> Result<Expr, FormFault>
+    ensures exact { Gives (forms.basic_constant tokens.old) result tokens.new }
+{
+    if tokens.comes_kind(TokenKind::Integer) {
+        integer_constant(tokens)
+    } else {
+        text_constant(alloc, tokens)
+    }
+}
+
+/// One text or integer or more, with commas between, at most `LIST_LIMIT`.
 fn argument_list(alloc: Global, tokens: &mut Lexemes<'_>) -> Result<Items<Expr>, FormFault>
-    ensures exact { Gives (forms.list_of forms.text_constant forms.list_limit tokens.old) result tokens.new }
+    ensures exact { Gives (forms.list_of forms.basic_constant forms.list_limit tokens.old) result tokens.new }
 {
     let mut found = Items::new(alloc);
     for _turn in 0..LIST_LIMIT {
-        found.push(text_constant(alloc, tokens)?)?;
+        found.push(basic_constant(alloc, tokens)?)?;
         if !tokens.eat(TokenKind::Sign, b",") {
             return Ok(found);
         }
@@ -165,7 +203,7 @@ fn constant(alloc: Global, tokens: &mut Lexemes<'_>) -> Result<Expr, FormFault>
     ensures exact { Gives (forms.constant tokens.old) result tokens.new }
 {
     if !tokens.eat(TokenKind::Word, b"new") {
-        return text_constant(alloc, tokens);
+        return basic_constant(alloc, tokens);
     }
     let class = name(alloc, tokens)?;
     let args = arguments(alloc, tokens)?;

@@ -43,6 +43,17 @@ impl<'a> Lexemes<'a> {
         }
     }
 
+    /// Whether a token of this kind comes next.
+    #[tactic(auto, unfolding(dg_decl::specs::Forms::comes_kind))]
+    pub fn comes_kind(&self, kind: TokenKind) -> bool
+        ensures exact { result ≡ forms.comes_kind kind self.now }
+    {
+        match self.tokens {
+            [] => false,
+            [token, ..] => token.kind == kind,
+        }
+    }
+
     /// Takes the next token, which has this kind and spelling.
     #[tactic(auto, unfolding(dg_decl::specs::Forms::taken))]
     pub fn take(&mut self, kind: TokenKind, spelled: &[u8]) -> Result<(), FormFault>

@@ -34,7 +34,7 @@ fn push_later_sites(out: &mut Vec<u8>, class: &Name, later: &[Binding<'_>]) -> R
 {
     for binding in later {
         out.extend_from_slice(b", ")?;
-        push_site(out, class, binding.module, binding.name)?;
+        push_site(out, class, binding.owner, binding.name)?;
     }
     Ok(())
 }
@@ -46,7 +46,7 @@ pub fn push_sites(out: &mut Vec<u8>, class: &Name, found: &[Binding<'_>]) -> Res
     let [first, later @ ..] = found else {
         return Ok(());
     };
-    push_site(out, class, first.module, first.name)?;
+    push_site(out, class, first.owner, first.name)?;
     push_later_sites(out, class, later)
 }
 
@@ -56,6 +56,7 @@ pub fn push_key(out: &mut Vec<u8>, wanted: &TypeUse) -> Result<(), NoMemory>
 {
     match &wanted.shape {
         Shape::Text => out.extend_from_slice(b"Text")?,
+        Shape::Int => out.extend_from_slice(b"Int")?,
         Shape::Named(name) => out.extend_from_slice(name.as_slice())?,
     }
     Ok(())

@@ -9,5 +9,5 @@ use Rattle.dg_top.proofs.lookup.bindings.Given as goal
 -- what was found so far, and under the header h that is open what is still to find
 abbrev pub invariant-loop-item : goal.invariant-loop-item
 invariant-loop-item l =
-    (h : Option Item) × (option_copied l.module ≡ module_in l.modules h)
+    (h : Option Item) × (option_copied l.owner ≡ module_in l.modules h)
     × (l.found.items ++ filter_map (binding_in l.modules l.wanted) (placed_from h (drop l.item-index l.items)) ≡ bindings l.modules l.wanted l.items)
