@@ -1,6 +1,7 @@
 //! Reads a document from its bytes.
 
 mod conditions;
+mod counts;
 mod document;
 mod draft;
 mod fault;

@@ -7,6 +7,7 @@ ghost use Rattle.dg_decl.specs.Conditions as conditions;
 ghost use Rattle.dg_top.specs.Drafts as drafts;
 
 use crate::reader::conditions::{is_admitted, may_stand};
+use crate::reader::counts::Counts;
 use dg_decl::Item;
 use dg_types::NoMemory;
 use std::alloc::Global;
@@ -18,6 +19,7 @@ pub struct Draft {
     items: Vec<Item>,
     /// The place of the first member of the open block, where one is open.
     block_start: usize,
+    counts: Counts,
 }
 
 impl Model for Draft {
@@ -30,11 +32,11 @@ impl Model for Draft {
 
     ghost coded = { Prim.hlevel (codes, expr.the_row.coded) };
 
-    ghost use Rattle.dg_top.specs.Drafts.{BeginsAt};
+    ghost use Rattle.dg_top.specs.Drafts.{IsDraft};
 
     ghost view = { λ d. d.items.items };
 
-    ghost invariant = { λ d. BeginsAt d.items.items d.block_start };
+    ghost invariant = { λ d. IsDraft d.items.items d.block_start d.counts };
 }
 
 /// Whether an item opens or ends a block.
@@ -55,6 +57,7 @@ impl Draft {
         Draft {
             items: Vec::new(alloc),
             block_start: 0,
+            counts: Counts::none(),
         }
     }
 
@@ -79,7 +82,9 @@ impl Draft {
     {
         let header = self.open_block();
         let members = &self.items[self.block_start..];
-        may_stand(header, item) && is_admitted(item, header, members, self.items.as_slice())
+        may_stand(header, item)
+            && self.counts.is_within_limits(item)
+            && is_admitted(item, header, members, self.items.as_slice())
     }
 
     /// Adds an item at the end. After an `Err` the draft is as it was before.
@@ -88,7 +93,9 @@ impl Draft {
         ensures lent { OnErr result (self.new ≡ self.old) }
     {
         let bounds_block = bounds_block(&item);
+        let counts = self.counts.with(&item);
         self.items.push(item)?;
+        self.counts = counts;
         if bounds_block {
             self.block_start = self.items.len();
         }
@@ -102,6 +109,7 @@ impl Draft {
         let Draft {
             items,
             block_start: _,
+            counts: _,
         } = self;
         items
     }
