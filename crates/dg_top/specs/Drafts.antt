@@ -47,8 +47,3 @@ pub record AreSmall (counts : Counts) : Type 0 where
   pub components : counts.components < 2 ^ 63
   pub opens : counts.opens < 2 ^ 63
   pub asks : counts.asks < 2 ^ 63
-
--- what a draft keeps is true of its items
-pub record IsDraft (items : List Item) (start : ℕ) (counts : Counts) : Type 0 where
-  pub begins : BeginsAt items start
-  pub counted : counts ≡ counts_of items

@@ -8,7 +8,9 @@ mod fault;
 mod forms;
 mod lexemes;
 mod meaning;
+mod names;
 mod split;
+mod table;
 
 pub use document::read_doc;
 pub use fault::ReadDocFault;

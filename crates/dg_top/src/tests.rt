@@ -43,7 +43,7 @@ fn run(
 ) -> Result<(Status, MemSink), Fail> {
     let text = text.to_vec(alloc)?;
     let mut source = MemSource::new(text, outside.piece.max(1), outside.bad_reads.to_vec(alloc)?);
-    let mut sink = MemSink::with_room(alloc, 4096, outside.bad_writes.to_vec(alloc)?)?;
+    let mut sink = MemSink::with_room(alloc, 1 << 20, outside.bad_writes.to_vec(alloc)?)?;
     let mut gates = [QuietGate; 64].to_vec(alloc)?;
     let status = run_top(alloc, words, &mut source, &mut sink, &mut gates);
     Ok((status, sink))
