@@ -11,6 +11,7 @@ use Rattle.dg_decl.specs.declared.item.Item.TheVariants.{Class, Module, Componen
 use Rattle.dg_decl.specs.declared.item.Param.{Param}
 use Rattle.dg_decl.specs.Bytes.{Bytes, is_among}
 use Rattle.dg_decl.specs.Blocks.{open_block, in_open_block, is_module_header, is_component_header}
+use Rattle.dg_decl.specs.Limits.{is_within_limits}
 use Rattle.dg_decl.specs.Lookup.{params_of, class_of, entry_of}
 
 -- ---- the block
@@ -161,4 +162,4 @@ is_admitted (AskLine i e) earlier = has_entry e (class_of i earlier) earlier
 
 -- an item may stand behind these
 unfoldable pub may_follow : Item → List Item → Bool
-may_follow item earlier = may_stand (open_block earlier) item && is_admitted item earlier
+may_follow item earlier = may_stand (open_block earlier) item && is_within_limits item earlier && is_admitted item earlier

@@ -6,6 +6,7 @@ use Rattle.dg_types.specs.declared.shape.Shape.{Shape}
 use Rattle.dg_types.specs.declared.shape.Shape.TheVariants as shape
 use Rattle.dg_types.specs.declared.shape.TypeUse.{TypeUse}
 use Rattle.dg_decl.specs.contracts.lex.token.TokenKind.{the_type}
+use Rattle.dg_decl.specs.declared.limits.TheConstants.{LIST_LIMIT}
 use Rattle.dg_decl.specs.declared.lex.token.Token.{Token}
 use Rattle.dg_decl.specs.declared.lex.token.TokenKind.{TokenKind}
 use Rattle.dg_decl.specs.declared.lex.token.TokenKind.TheVariants as kind
@@ -112,7 +113,7 @@ integer = spelled kind.Integer >>= λ z. if is_integer z then pure (value_of_int
 -- ---- lists: one member or more with commas between, at most so many
 
 abbrev pub list_limit : ℕ
-list_limit = 32
+list_limit = LIST_LIMIT
 
 unfoldable pub list_of : {A : Type 0} → Reader A → ℕ → Reader (List A)
 list_of member zero = nothing

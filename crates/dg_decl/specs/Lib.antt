@@ -6,5 +6,6 @@ pub mod Forms
 pub mod Meaning
 pub mod Blocks
 pub mod Lookup
+pub mod Limits
 pub mod Conditions
 pub mod Reading

@@ -1,11 +1,8 @@
 -- The lines of a document's bytes.
 use Rattle.std.specs.Prelude.{ℕ, Bool, ◌&&◌, if◌then◌else◌, ◌==◌, nat_le, List, [], ◌∷◌, length, drop, slice_index}
 use Rattle.std.specs.List.{list_all, list_any, prefix_len}
+use Rattle.dg_decl.specs.declared.limits.TheConstants.{LINE_LIMIT}
 use Rattle.dg_decl.specs.Bytes.{Bytes, line_end, is_plain}
-
--- the most bytes of a line, without the LF that ends it
-abbrev pub line_limit : ℕ
-line_limit = 4096
 
 -- lines, the first of which begins with one more byte
 abbrev pub with_first : ℕ → List Bytes → List Bytes
@@ -24,7 +21,7 @@ rest_of (b ∷ bytes) = if list_any (λ c. c == line_end) (b ∷ bytes) then res
 
 -- a line of plain bytes, and not too many
 abbrev pub is_printable : Bytes → Bool
-is_printable line = nat_le (length line) line_limit && list_all is_plain line
+is_printable line = nat_le (length line) LINE_LIMIT && list_all is_plain line
 
 -- a line from its first byte that is no space on
 abbrev pub without_indent : Bytes → Bytes

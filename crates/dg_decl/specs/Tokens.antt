@@ -4,6 +4,7 @@ use Rattle.std.specs.Char.{is_ascii_alphabetic, is_ascii_digit}
 use Rattle.std.specs.List.{prefix_len, list_all, list_any}
 use Rattle.std.specs.Str.{bytes_eq}
 use Rattle.dg_decl.specs.Bytes.{Bytes, is_plain, is_word_byte, is_among}
+use Rattle.dg_decl.specs.declared.limits.TheConstants.{NAME_LIMIT}
 use Rattle.dg_decl.specs.declared.lex.token.Token.{Token}
 use Rattle.dg_decl.specs.declared.lex.token.TokenKind.{TokenKind}
 use Rattle.dg_decl.specs.declared.lex.token.TokenKind.TheVariants.{Name, Word, AtName, Integer, Text, Sign}
@@ -15,7 +16,7 @@ reserved = codes "new" ∷ codes "if" ∷ codes "then" ∷ codes "else" ∷ code
 
 -- a letter, then letters, digits and `_`, at most 64 bytes in all, and no reserved word
 unfoldable pub is_name : Bytes → Bool
-is_name z = is_ascii_alphabetic (slice_index z 0) && list_all is_word_byte z && nat_le (length z) 64 && not (is_among z reserved)
+is_name z = is_ascii_alphabetic (slice_index z 0) && list_all is_word_byte z && nat_le (length z) NAME_LIMIT && not (is_among z reserved)
 
 -- `@` and a name
 unfoldable pub is_at_name : Bytes → Bool

@@ -5,6 +5,7 @@ mod document;
 mod expression;
 mod item;
 pub mod lex;
+pub mod limits;
 mod reading;
 
 pub use document::{Doc, LineMeaning};

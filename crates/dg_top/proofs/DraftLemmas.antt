@@ -20,7 +20,7 @@ earlier_of (y ∷ ys) x (suc place) lt = earlier_of ys x place (omega arith)
 open_push : (items : List Item) (x : Item) → open_block (items ++ x ∷ []) ≡ open_after (open_block items) x
 open_push items x = fold-append open_after None items (x ∷ [])
 
-gathered_push : (items : List Item) (x : Item) → in_open_block (items ++ x ∷ []) ≡ gathered (in_open_block items) x
+pub gathered_push : (items : List Item) (x : Item) → in_open_block (items ++ x ∷ []) ≡ gathered (in_open_block items) x
 gathered_push items x = fold-append gathered [] items (x ∷ [])
 
 header_behind : (items : List Item) (x : Item) → header_before (suc (length items)) (items ++ x ∷ []) ≡ header_of (Some x)

@@ -2,6 +2,7 @@ pub mod ListLemmas
 pub mod SplitLemmas
 pub mod ReadingLemmas
 pub mod ConditionLemmas
+pub mod TableLemmas
 pub mod DraftLemmas
 pub mod PrintLemmas
 pub mod NumberLemmas

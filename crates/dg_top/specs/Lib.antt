@@ -1,6 +1,7 @@
 pub mod Gives
 pub mod First
 pub mod Drafts
+pub mod Tables
 pub mod Adding
 pub mod ReadFaults
 pub mod Evaluation

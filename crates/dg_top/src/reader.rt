@@ -1,13 +1,16 @@
 //! Reads a document from its bytes.
 
 mod conditions;
+mod counts;
 mod document;
 mod draft;
 mod fault;
 mod forms;
 mod lexemes;
 mod meaning;
+mod names;
 mod split;
+mod table;
 
 pub use document::read_doc;
 pub use fault::ReadDocFault;

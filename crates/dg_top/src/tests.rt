@@ -43,7 +43,7 @@ fn run(
 ) -> Result<(Status, MemSink), Fail> {
     let text = text.to_vec(alloc)?;
     let mut source = MemSource::new(text, outside.piece.max(1), outside.bad_reads.to_vec(alloc)?);
-    let mut sink = MemSink::with_room(alloc, 4096, outside.bad_writes.to_vec(alloc)?)?;
+    let mut sink = MemSink::with_room(alloc, 1 << 20, outside.bad_writes.to_vec(alloc)?)?;
     let mut gates = [QuietGate; 64].to_vec(alloc)?;
     let status = run_top(alloc, words, &mut source, &mut sink, &mut gates);
     Ok((status, sink))
@@ -342,6 +342,62 @@ x
         sink.bytes(),
         b"[Dagger/MissingBinding] App/App.t: Text\n".as_slice()
     );
+    Ok(())
+}
+
+/// A document of so many classes.
+fn declarations(alloc: Global, count: usize) -> Result<Vec<u8>, AllocError> {
+    let mut text = Vec::new(alloc);
+    for number in 0..count {
+        text.extend_from_slice(format!(in alloc; "class C{number}()\n")?.as_bytes())?;
+    }
+    Ok(text)
+}
+
+/// A document with a component `App` and so many instances of it.
+fn opens(alloc: Global, count: usize) -> Result<Vec<u8>, AllocError> {
+    let mut text = b"component App {\n}\n".as_slice().to_vec(alloc)?;
+    for number in 0..count {
+        text.extend_from_slice(format!(in alloc; "open a{number} : App\n")?.as_bytes())?;
+    }
+    Ok(text)
+}
+
+/// The shortest document with so many asks.
+fn asks(alloc: Global, count: usize) -> Result<Vec<u8>, AllocError> {
+    let mut text = FIRST[..FIRST.len() - 9].to_vec(alloc)?;
+    for _ in 0..count {
+        text.extend_from_slice(b"ask a.db\n")?;
+    }
+    Ok(text)
+}
+
+#[test]
+fn a_document_has_as_many_lines_of_a_kind_as_their_limit(rt: HostRuntime) -> Result<(), Fail> {
+    let cases = [
+        declarations(rt.alloc(), 8192)?,
+        opens(rt.alloc(), 256)?,
+        asks(rt.alloc(), 20000)?,
+    ];
+    for text in &cases {
+        let (status, _) = run(rt.alloc(), &[], text.as_slice(), calm(4096))?;
+        assert_eq!(rt; status, Status::Ran);
+    }
+    Ok(())
+}
+
+#[test]
+fn a_line_past_a_limit_is_bad(rt: HostRuntime) -> Result<(), Fail> {
+    let cases = [
+        (declarations(rt.alloc(), 8193)?, b"bad line 8193\n".as_slice()),
+        (opens(rt.alloc(), 257)?, b"bad line 259\n"),
+        (asks(rt.alloc(), 20001)?, b"bad line 20009\n"),
+    ];
+    for (text, reply) in &cases {
+        let (status, sink) = run(rt.alloc(), &[], text.as_slice(), calm(4096))?;
+        assert_eq!(rt; status, Status::BadLine);
+        assert_eq!(rt; sink.bytes(), *reply);
+    }
     Ok(())
 }
 

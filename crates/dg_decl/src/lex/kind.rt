@@ -9,9 +9,7 @@ ghost use Rattle.dg_decl.specs.Tokens as spec;
 use crate::lex::extent::is_word_byte;
 use crate::lex::number::value_of_digits;
 use crate::lex::token::TokenKind;
-
-/// The most bytes of a name.
-const NAME_LIMIT: usize = 64;
+use crate::limits::NAME_LIMIT;
 
 const SIGNS: &[u8] = b"(){}<>,:=.!?[]+";
 

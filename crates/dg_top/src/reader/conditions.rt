@@ -5,12 +5,12 @@ ghost use Rattle.std.specs.Option.{option_copied, option_map};
 ghost use Rattle.std.specs.List.{list_all, list_any};
 ghost use Rattle.std.specs.Str.{bytes_eq};
 ghost use Rattle.dg_decl.specs.declared.expression.Expr.{out-Expr};
-ghost use Rattle.dg_decl.specs.Blocks as blocks;
 ghost use Rattle.dg_decl.specs.Bytes as bytes;
 ghost use Rattle.dg_decl.specs.Conditions as conditions;
 ghost use Rattle.dg_decl.specs.Lookup as lookup;
 
-use crate::lookup::{class_of, entry_of, params_of};
+use crate::lookup::entry_of;
+use crate::reader::draft::Draft;
 use dg_decl::{Expr, Item, Param};
 use dg_types::{Name, Shape, TypeUse};
 
@@ -80,68 +80,12 @@ fn is_predefined(name: &[u8]) -> bool
     is_word(name, &PREDEFINED)
 }
 
-/// The name that an item declares outside blocks.
-fn outer_name(item: &Item) -> Option<&Name>
-    ensures exact { option_copied result ≡ conditions.outer_name item.now }
-{
-    match item {
-        Item::Class { name, .. } | Item::Module { name } | Item::Component { name, .. } => {
-            Some(name)
-        }
-        _ => None,
-    }
-}
-
-/// The name that a member declares in its block.
-fn member_name(item: &Item) -> Option<&Name>
-    ensures exact { option_copied result ≡ conditions.member_name item.now }
-{
-    match item {
-        Item::Provides { name, .. } | Item::Entry { name, .. } => Some(name),
-        _ => None,
-    }
-}
-
-fn declares_outer(name: &[u8], items: &[Item]) -> bool
-    ensures exact { result ≡ conditions.declares conditions.outer_name name.now items.now }
-{
-    items
-        .iter()
-        .any(|item| outer_name(item).is_some_and(|n| n.is(name)))
-}
-
-fn declares_member(name: &[u8], items: &[Item]) -> bool
-    ensures exact { result ≡ conditions.declares conditions.member_name name.now items.now }
-{
-    items
-        .iter()
-        .any(|item| member_name(item).is_some_and(|n| n.is(name)))
-}
-
-fn declares_module(name: &[u8], items: &[Item]) -> bool
-    ensures exact { result ≡ conditions.declares conditions.module_name name.now items.now }
-{
-    items.iter().any(|item| matches!(item, Item::Module { name: n } if n.is(name)))
-}
-
-fn declare_modules(names: &[Name], items: &[Item]) -> bool
-    ensures exact { result ≡ list_all (λ name. conditions.declares conditions.module_name name items.now) names.now }
+fn declare_modules(names: &[Name], earlier: &Draft) -> bool
+    ensures exact { result ≡ list_all (λ name. conditions.declares conditions.module_name name earlier.now) names.now }
 {
     names
         .iter()
-        .all(|name| declares_module(name.as_slice(), items))
-}
-
-fn declares_component(name: &[u8], items: &[Item]) -> bool
-    ensures exact { result ≡ conditions.declares conditions.component_name name.now items.now }
-{
-    items.iter().any(|item| matches!(item, Item::Component { name: n, .. } if n.is(name)))
-}
-
-fn declares_instance(name: &[u8], items: &[Item]) -> bool
-    ensures exact { result ≡ conditions.declares conditions.instance_name name.now items.now }
-{
-    items.iter().any(|item| matches!(item, Item::OpenLine { name: n, .. } if n.is(name)))
+        .all(|name| earlier.declares_module(name.as_slice()))
 }
 
 fn has_module(items: &[Item]) -> bool
@@ -158,10 +102,16 @@ fn has_component(items: &[Item]) -> bool
         .any(|item| matches!(item, Item::Component { .. }))
 }
 
-fn is_new(name: &[u8], earlier: &[Item]) -> bool
+fn is_new(name: &[u8], earlier: &Draft) -> bool
     ensures exact { result ≡ conditions.is_new name.now earlier.now }
 {
-    !is_predefined(name) && !declares_outer(name, earlier)
+    !is_predefined(name) && !earlier.declares_outer(name)
+}
+
+fn is_new_member(name: &[u8], earlier: &Draft) -> bool
+    ensures exact { result ≡ conditions.is_new_member name.now earlier.now }
+{
+    is_new(name, earlier) && !earlier.declares_member(name)
 }
 
 fn has_param(name: &[u8], params: &[Param]) -> bool
@@ -189,13 +139,13 @@ fn are_basic(params: &[Param]) -> bool
     params.iter().all(|param| matches!(param.shape.shape, Shape::Text | Shape::Int))
 }
 
-fn is_class(name: &Name, earlier: &[Item]) -> bool
+fn is_class(name: &Name, earlier: &Draft) -> bool
     ensures exact { result ≡ is_some (lookup.params_of name.now earlier.now) }
 {
-    params_of(name.as_slice(), earlier).is_some()
+    earlier.params_of(name.as_slice()).is_some()
 }
 
-fn is_known(shape: &Shape, earlier: &[Item]) -> bool
+fn is_known(shape: &Shape, earlier: &Draft) -> bool
     ensures exact { result ≡ conditions.is_known_shape shape.now earlier.now }
 {
     match shape {
@@ -244,14 +194,14 @@ fn fits_params(args: &[Expr], params: Option<&[Param]>) -> bool
 }
 
 /// Whether a new object of one class, with these arguments, is of the other.
-fn makes(class: &Name, args: &[Expr], name: &Name, earlier: &[Item]) -> bool
+fn makes(class: &Name, args: &[Expr], name: &Name, earlier: &Draft) -> bool
     ensures exact { result ≡ (bytes_eq class.now name.now && conditions.fits_params args.now (lookup.params_of class.now earlier.now)) }
 {
-    class.is(name.as_slice()) && fits_params(args, params_of(class.as_slice(), earlier))
+    class.is(name.as_slice()) && fits_params(args, earlier.params_of(class.as_slice()))
 }
 
 /// Whether a constant has a type.
-fn checks(body: &Expr, wanted: &TypeUse, earlier: &[Item]) -> bool
+fn checks(body: &Expr, wanted: &TypeUse, earlier: &Draft) -> bool
     ensures exact { result ≡ conditions.checks body.now wanted.now earlier.now }
 {
     match (body, &wanted.shape) {
@@ -262,18 +212,17 @@ fn checks(body: &Expr, wanted: &TypeUse, earlier: &[Item]) -> bool
     }
 }
 
-fn has_entry(inst: &Name, entry: &Name, earlier: &[Item]) -> bool
+fn has_entry(inst: &Name, entry: &Name, earlier: &Draft) -> bool
     ensures exact { result ≡ conditions.has_entry entry.now (lookup.class_of inst.now earlier.now) earlier.now }
 {
-    match class_of(inst.as_slice(), earlier) {
-        Some(class) => entry_of(class, entry.as_slice(), earlier).is_some(),
+    match earlier.class_of(inst.as_slice()) {
+        Some(class) => entry_of(class, entry.as_slice(), earlier.items()).is_some(),
         None => false,
     }
 }
 
-/// Whether an item meets its conditions, where the open block has these members.
-pub fn is_admitted(item: &Item, members: &[Item], earlier: &[Item]) -> bool
-    requires { members.now ≡ blocks.in_open_block earlier.now }
+/// Whether an item meets its conditions.
+pub fn is_admitted(item: &Item, earlier: &Draft) -> bool
     ensures exact { result ≡ conditions.is_admitted item.now earlier.now }
 {
     match item {
@@ -282,27 +231,25 @@ pub fn is_admitted(item: &Item, members: &[Item], earlier: &[Item]) -> bool
                 && are_basic(params.as_slice())
                 && are_distinct(params.as_slice())
         }
-        Item::Module { name } => is_new(name.as_slice(), earlier) && !has_module(earlier),
+        Item::Module { name } => is_new(name.as_slice(), earlier) && !has_module(earlier.items()),
         Item::Component { name, modules } => {
             is_new(name.as_slice(), earlier)
-                && !has_component(earlier)
+                && !has_component(earlier.items())
                 && declare_modules(modules.as_slice(), earlier)
         }
         Item::Provides { name, result, body } => {
-            is_new(name.as_slice(), earlier)
-                && !declares_member(name.as_slice(), members)
+            is_new_member(name.as_slice(), earlier)
                 && is_known(&result.shape, earlier)
                 && checks(body, result, earlier)
         }
         Item::Entry { name, result } => {
-            is_new(name.as_slice(), earlier)
-                && !declares_member(name.as_slice(), members)
+            is_new_member(name.as_slice(), earlier)
                 && is_known(&result.shape, earlier)
         }
         Item::End => true,
         Item::OpenLine { name, class } => {
-            !declares_instance(name.as_slice(), earlier)
-                && declares_component(class.as_slice(), earlier)
+            !earlier.declares_instance(name.as_slice())
+                && earlier.declares_component(class.as_slice())
         }
         Item::AskLine { inst, entry } => has_entry(inst, entry, earlier),
     }

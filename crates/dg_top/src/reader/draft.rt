@@ -1,13 +1,17 @@
 //! The items of a document that is being read.
 
-ghost use Rattle.std.specs.Prelude.{◌≡◌, [], ◌∷◌, ◌++◌, OnOk, OnErr};
-ghost use Rattle.std.specs.Option.{option_copied};
+ghost use Rattle.std.specs.Prelude.{◌≡◌, [], ◌∷◌, ◌++◌, slice_get, OnOk, OnErr};
+ghost use Rattle.std.specs.Option.{option_and_then, option_copied, option_map};
 ghost use Rattle.dg_decl.specs.Blocks as blocks;
 ghost use Rattle.dg_decl.specs.Conditions as conditions;
+ghost use Rattle.dg_decl.specs.Lookup as lookup;
 ghost use Rattle.dg_top.specs.Drafts as drafts;
+ghost use Rattle.dg_top.specs.Tables as tables;
 
 use crate::reader::conditions::{is_admitted, may_stand};
-use dg_decl::Item;
+use crate::reader::counts::Counts;
+use crate::reader::names::Names;
+use dg_decl::{Item, Param};
 use dg_types::NoMemory;
 use std::alloc::Global;
 use std::marker::Model;
@@ -18,6 +22,8 @@ pub struct Draft {
     items: Vec<Item>,
     /// The place of the first member of the open block, where one is open.
     block_start: usize,
+    counts: Counts,
+    names: Names,
 }
 
 impl Model for Draft {
@@ -30,11 +36,11 @@ impl Model for Draft {
 
     ghost coded = { Prim.hlevel (codes, expr.the_row.coded) };
 
-    ghost use Rattle.dg_top.specs.Drafts.{BeginsAt};
+    ghost use Rattle.dg_top.specs.Tables.{IsDraft};
 
     ghost view = { λ d. d.items.items };
 
-    ghost invariant = { λ d. BeginsAt d.items.items d.block_start };
+    ghost invariant = { λ d. IsDraft d.items.items d.block_start d.counts d.names };
 }
 
 /// Whether an item opens or ends a block.
@@ -47,6 +53,33 @@ fn bounds_block(item: &Item) -> bool
     )
 }
 
+/// The item at a place, if there is one.
+fn item_at(items: &[Item], place: usize) -> Option<&Item>
+    ensures exact { option_copied result ≡ slice_get items.now place }
+{
+    items.get(place)
+}
+
+/// The parameters of a class.
+fn fields_of(item: Option<&Item>) -> Option<&[Param]>
+    ensures exact { option_map (λ ps. ps.now) result ≡ option_and_then tables.fields_of (option_copied item.entry) }
+{
+    match item {
+        Some(Item::Class { params, .. }) => Some(params.as_slice()),
+        _ => None,
+    }
+}
+
+/// The component that an `open` line names.
+fn opened_class(item: Option<&Item>) -> Option<&[u8]>
+    ensures exact { option_map (λ c. c.now) result ≡ option_and_then tables.opened_class (option_copied item.entry) }
+{
+    match item {
+        Some(Item::OpenLine { class, .. }) => Some(class.as_slice()),
+        _ => None,
+    }
+}
+
 impl Draft {
     /// A draft without items.
     pub fn new(alloc: Global) -> Draft
@@ -55,6 +88,8 @@ impl Draft {
         Draft {
             items: Vec::new(alloc),
             block_start: 0,
+            counts: Counts::none(),
+            names: Names::new(alloc),
         }
     }
 
@@ -72,14 +107,80 @@ impl Draft {
         }
     }
 
+    /// The items so far.
+    pub fn items(&self) -> &[Item]
+        ensures exact { result.now ≡ self.now }
+    {
+        self.items.as_slice()
+    }
+
+    /// Whether a class, a module or a component has this name.
+    #[tactic(auto, using(crate::proofs::TableLemmas::outer_is))]
+    pub fn declares_outer(&self, name: &[u8]) -> bool
+        ensures exact { result ≡ conditions.declares conditions.outer_name name.now self.now }
+    {
+        self.declares_class(name) || self.declares_module(name) || self.declares_component(name)
+    }
+
+    fn declares_class(&self, name: &[u8]) -> bool
+        ensures exact { result ≡ conditions.declares tables.class_name name.now self.now }
+    {
+        self.names.classes.place_of(name).is_some()
+    }
+
+    pub fn declares_module(&self, name: &[u8]) -> bool
+        ensures exact { result ≡ conditions.declares conditions.module_name name.now self.now }
+    {
+        self.names.modules.place_of(name).is_some()
+    }
+
+    pub fn declares_component(&self, name: &[u8]) -> bool
+        ensures exact { result ≡ conditions.declares conditions.component_name name.now self.now }
+    {
+        self.names.components.place_of(name).is_some()
+    }
+
+    pub fn declares_instance(&self, name: &[u8]) -> bool
+        ensures exact { result ≡ conditions.declares conditions.instance_name name.now self.now }
+    {
+        self.names.instances.place_of(name).is_some()
+    }
+
+    /// Whether a member of the block that is open has this name.
+    pub fn declares_member(&self, name: &[u8]) -> bool
+        ensures exact { result ≡ conditions.declares conditions.member_name name.now (blocks.in_open_block self.now) }
+    {
+        self.names.members.place_of(name).is_some()
+    }
+
+    /// The parameters of a class.
+    pub fn params_of(&self, class: &[u8]) -> Option<&[Param]>
+        ensures exact { option_map (λ ps. ps.now) result ≡ lookup.params_of class.now self.now }
+    {
+        match self.names.classes.place_of(class) {
+            Some(place) => fields_of(item_at(self.items.as_slice(), place)),
+            None => None,
+        }
+    }
+
+    /// The component of which an instance is opened.
+    pub fn class_of(&self, inst: &[u8]) -> Option<&[u8]>
+        ensures exact { option_map (λ c. c.now) result ≡ lookup.class_of inst.now self.now }
+    {
+        match self.names.instances.place_of(inst) {
+            Some(place) => opened_class(item_at(self.items.as_slice(), place)),
+            None => None,
+        }
+    }
+
     /// Whether an item may stand behind those of the draft.
     #[tactic(auto, unfolding(dg_decl::specs::Conditions::may_follow))]
     pub fn may_follow(&self, item: &Item) -> bool
         ensures exact { result ≡ conditions.may_follow item.now self.now }
     {
-        let header = self.open_block();
-        let members = &self.items[self.block_start..];
-        may_stand(header, item) && is_admitted(item, members, self.items.as_slice())
+        may_stand(self.open_block(), item)
+            && self.counts.is_within_limits(item)
+            && is_admitted(item, self)
     }
 
     /// Adds an item at the end. After an `Err` the draft is as it was before.
@@ -88,7 +189,11 @@ impl Draft {
         ensures lent { OnErr result (self.new ≡ self.old) }
     {
         let bounds_block = bounds_block(&item);
+        let counts = self.counts.with(&item);
+        self.items.reserve(1)?;
+        self.names.note(&item, self.items.len())?;
         self.items.push(item)?;
+        self.counts = counts;
         if bounds_block {
             self.block_start = self.items.len();
         }
@@ -102,6 +207,8 @@ impl Draft {
         let Draft {
             items,
             block_start: _,
+            counts: _,
+            names: _,
         } = self;
         items
     }

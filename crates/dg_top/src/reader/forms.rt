@@ -8,13 +8,11 @@ ghost use Rattle.dg_top.specs.declared.reader.fault.FormFault.TheVariants as fau
 use crate::reader::fault::FormFault;
 use crate::reader::lexemes::Lexemes;
 use dg_decl::lex::{TokenKind, value_of_integer};
+use dg_decl::limits::LIST_LIMIT;
 use dg_decl::{Expr, Item, Param};
 use dg_types::{Name, NoMemory, Shape, Text, TypeUse};
 use sqlite_items::Items;
 use std::alloc::Global;
-
-/// The most members of a list in parentheses.
-const LIST_LIMIT: usize = 32;
 
 fn keyword(tokens: &mut Lexemes<'_>, word: &[u8]) -> Result<(), FormFault>
     ensures exact { GivesBy (λ _. tt) (forms.keyword word.now tokens.old) result tokens.new }

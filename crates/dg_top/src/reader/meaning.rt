@@ -12,11 +12,9 @@ use crate::reader::forms::item_line;
 use crate::reader::lexemes::Lexemes;
 use dg_decl::LineMeaning;
 use dg_decl::lex::{LexFault, tokens};
+use dg_decl::limits::LINE_LIMIT;
 use dg_types::NoMemory;
 use std::alloc::Global;
-
-/// The most bytes of a line, without the LF that ends it.
-const LINE_LIMIT: usize = 4096;
 
 fn are_plain(line: &[u8]) -> bool
     ensures exact { result ≡ list_all bytes.is_plain line.now }

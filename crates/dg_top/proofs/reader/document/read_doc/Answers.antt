@@ -1,4 +1,5 @@
-use Rattle.std.proofs.Common.{Bool, ◌+◌, sym, subst, ◌∙◌, arith, rules}
+use Rattle.std.proofs.Common.{Bool, ◌+◌, sym, subst, ◌∙◌, arith}
+use Rattle.std.proofs.lemmas.Result.{err_from_is_err_and}
 use Rattle.dg_top.specs.Adding.{Adds}
 use Rattle.dg_top.specs.ReadFaults.{HasLineOfTokens}
 use Rattle.dg_top.proofs.ReadingLemmas.{nothing_read, goes_on, has_line_of_tokens, is_bad, rest_is_bad, end_is_bad, is_read, is_empty_text, isnt_empty_text, is_open, is_closed}
@@ -18,7 +19,8 @@ returns-in_err-add_line-clause-cause c =
     let some : HasLineOfTokens c.args.bytes.now =
     has_line_of_tokens c.args.bytes.now c.loop-line.number c.loop-line.rest.now c.in-Some.line.now c.in-Some.more.now c.loop-line.draft c.loop-line.places.items c.loop-line.invariant.read
     c.in-Some.ensures.lines c.in_err-add_line.ensures.cause in
-    search (rules, some)
+    let p = err_from_is_err_and c.from_residual.result c.from_residual.ensures.1 in
+    rw (p.1, p.2) some
 
 pub loop-line-preserved : goal.loop-line-preserved
 loop-line-preserved c =
