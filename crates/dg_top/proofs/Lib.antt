@@ -3,6 +3,8 @@ pub mod SplitLemmas
 pub mod ReadingLemmas
 pub mod ConditionLemmas
 pub mod TableLemmas
+pub mod ComponentLemmas
+pub mod KnownLemmas
 pub mod DraftLemmas
 pub mod PrintLemmas
 pub mod NumberLemmas

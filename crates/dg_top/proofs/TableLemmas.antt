@@ -1,8 +1,8 @@
 -- Tables of names, and the names that items declare.
-use Rattle.std.proofs.Common.{◌≡◌, ℕ, zero, suc, ◌+◌, ◌≤◌, ◌<◌, Bool, true, false, cond, List, [], ◌∷◌, ◌++◌, map, length, take, Option, Some, None, is_some, if◌then◌else◌, ◌||◌, refl, sym, ap, subst, ◌∙◌, true≢false, arith}
+use Rattle.std.proofs.Common.{◌≡◌, ℕ, zero, suc, ◌+◌, Bool, true, false, cond, List, [], ◌∷◌, ◌++◌, map, length, take, Option, Some, None, is_some, if◌then◌else◌, ◌||◌, refl, sym, ap, subst, ◌∙◌, true≢false, arith}
 use Rattle.std.specs.Bool.{one_answer}
 use Rattle.std.specs.List.{list_any, position_from, slice_get}
-use Rattle.std.specs.Map.{lookup}
+use Rattle.std.specs.Map.{lookup, set_value}
 use Rattle.std.specs.Option.{option_and_then, option_map_or}
 use Rattle.std.specs.Str.{bytes_eq}
 use Rattle.std.proofs.lemmas.List.Folds.{list_any-append}
@@ -13,33 +13,41 @@ use Rattle.dg_decl.specs.Bytes.{Bytes}
 use Rattle.dg_decl.specs.Lookup.{or_else, first, params_in, params_of, class_in, class_of}
 use Rattle.dg_decl.specs.Conditions.{is_this, declares, outer_name, module_name, component_name, instance_name, member_name}
 use Rattle.dg_decl.specs.Blocks.{in_open_block, gathered}
-use Rattle.dg_top.specs.declared.reader.names.Names.{Names}
-use Rattle.dg_top.specs.declared.reader.counts.Counts.{Counts}
-use Rattle.dg_top.specs.Drafts.{bounds_block, counts_of, BeginsAt}
-use Rattle.dg_top.specs.Tables.{Table, place_in, with_name, class_name, place_of, fields_of, opened_class, KnowsPlaces, KnowsNames, KnowsAll, noted_in, noted, no_names, IsDraft}
+use Rattle.dg_top.specs.Drafts.{bounds_block}
+use Rattle.dg_top.specs.Tables.{Table, place_in, with_name}
+use Rattle.dg_top.specs.Known.{class_name, place_of, fields_of, opened_class, KnowsPlaces, KnowsNames, noted_in}
 use Rattle.dg_top.proofs.DraftLemmas.{gathered_push}
 
 -- ---- tables
 
-module _ {K : Type 0} (bytes : K → Bytes) where
-  -- a map's entries as a table
-  abbrev pub table_of : List (K × ℕ) → Table
-  table_of entries = map (λ e. (bytes e.0, e.1)) entries
+module _ {K X : Type 0} (bytes : K → Bytes) where
+  -- a map's entries, with the bytes of each key
+  abbrev pub seen : List (K × X) → List (Bytes × X)
+  seen entries = map (λ e. (bytes e.0, e.1)) entries
 
-  pub place_in-table_of : (name : Bytes) (entries : List (K × ℕ)) → lookup (λ k. bytes_eq name (bytes k)) entries ≡ place_in name (table_of entries)
-  place_in-table_of name [] = refl
-  place_in-table_of name (e ∷ es) = ap (cond (bytes_eq name (bytes e.0)) (Some e.1)) (place_in-table_of name es)
+  pub lookup-seen : (name : Bytes) (entries : List (K × X)) → lookup (λ k. bytes_eq name (bytes k)) entries ≡ lookup (bytes_eq name) (seen entries)
+  lookup-seen name [] = refl
+  lookup-seen name (e ∷ es) = ap (cond (bytes_eq name (bytes e.0)) (Some e.1)) (lookup-seen name es)
 
-  pub table_of-push : (entries : List (K × ℕ)) (e : K × ℕ) → table_of (entries ++ e ∷ []) ≡ table_of entries ++ (bytes e.0, e.1) ∷ []
-  table_of-push [] e = refl
-  table_of-push (x ∷ xs) e = ap (λ (t : Table). (bytes x.0, x.1) ∷ t) (table_of-push xs e)
+  pub seen-push : (entries : List (K × X)) (e : K × X) → seen (entries ++ e ∷ []) ≡ seen entries ++ (bytes e.0, e.1) ∷ []
+  seen-push [] e = refl
+  seen-push (x ∷ xs) e = ap (λ (t : List (Bytes × X)). (bytes x.0, x.1) ∷ t) (seen-push xs e)
 
-  pub table_of-take : (n : ℕ) (entries : List (K × ℕ)) → table_of (take n entries) ≡ take n (table_of entries)
-  table_of-take zero xs = refl
-  table_of-take (suc n) [] = refl
-  table_of-take (suc n) (x ∷ xs) = ap (λ (t : Table). (bytes x.0, x.1) ∷ t) (table_of-take n xs)
+  pub seen-take : (n : ℕ) (entries : List (K × X)) → seen (take n entries) ≡ take n (seen entries)
+  seen-take zero xs = refl
+  seen-take (suc n) [] = refl
+  seen-take (suc n) (x ∷ xs) = ap (λ (t : List (Bytes × X)). (bytes x.0, x.1) ∷ t) (seen-take n xs)
 
-is_none : {A : Type 0} (o : Option A) (b : Bool) → b ≡ is_some o → b ≡ false → o ≡ None
+  pub seen-set_value : (name : Bytes) (entries : List (K × X)) (w : X) → seen (set_value (λ k. bytes_eq name (bytes k)) entries w) ≡ set_value (bytes_eq name) (seen entries) w
+  seen-set_value name [] w = refl
+  seen-set_value name (e ∷ es) w = by (bytes_eq name (bytes e.0)) (seen-set_value name es w)
+    where
+      by : (b : Bool) → seen (set_value (λ k. bytes_eq name (bytes k)) es w) ≡ set_value (bytes_eq name) (seen es) w
+          → seen (cond b ((e.0, w) ∷ es) (e ∷ set_value (λ k. bytes_eq name (bytes k)) es w)) ≡ cond b ((bytes e.0, w) ∷ seen es) ((bytes e.0, e.1) ∷ set_value (bytes_eq name) (seen es) w)
+      by true rest = refl
+      by false rest = ap (λ (t : List (Bytes × X)). (bytes e.0, e.1) ∷ t) rest
+
+pub is_none : {A : Type 0} (o : Option A) (b : Bool) → b ≡ is_some o → b ≡ false → o ≡ None
 is_none None b is fails = refl
 is_none (Some x) b is fails = absurd (true≢false (sym is ∙ fails))
 
@@ -62,7 +70,7 @@ or_none : {A : Type 0} (o : Option A) → o ≡ or_else o None
 or_none None = refl
 or_none (Some x) = refl
 
-bytes_eq_turned : (a b : Bytes) → bytes_eq a b ≡ bytes_eq b a
+pub bytes_eq_turned : (a b : Bytes) → bytes_eq a b ≡ bytes_eq b a
 bytes_eq_turned a b = one_answer (bytes_eq a b) (bytes_eq b a) (bytes_eq-Decides a b) ((λ e. sym ((bytes_eq-Decides b a).0 e)), (λ e. (bytes_eq-Decides b a).1 (sym e)))
 
 place_in-push : (n name : Bytes) (place : ℕ) (table : Table) → place_in n (table ++ (name, place) ∷ []) ≡ or_else (place_in n table) (at (bytes_eq n name) place)
@@ -74,7 +82,7 @@ place_in-push n name place (row ∷ rows) = by (bytes_eq n row.0) (place_in-push
     by true rest = refl
     by false rest = rest
 
-place_in-with_name : (n name : Bytes) (place : ℕ) (table : Table) → place_in n (with_name name place table) ≡ or_else (place_in n table) (at (bytes_eq n name) place)
+pub place_in-with_name : (n name : Bytes) (place : ℕ) (table : Table) → place_in n (with_name name place table) ≡ or_else (place_in n table) (at (bytes_eq n name) place)
 place_in-with_name n name place table = by (place_in name table) refl
   where
     same : (o : Option ℕ) (k : ℕ) (b : Bool) → (b ≡ true → o ≡ Some k) → o ≡ or_else o (at b place)
@@ -120,57 +128,29 @@ or_false : (b : Bool) → (b || false) ≡ b
 or_false true = refl
 or_false false = refl
 
-declares_push : (name_in : Item → Option Bytes) (n : Bytes) (items : List Item) (x : Item) → declares name_in n (items ++ x ∷ []) ≡ (declares name_in n items || is_this (name_in x) n)
+pub declares_push : (name_in : Item → Option Bytes) (n : Bytes) (items : List Item) (x : Item) → declares name_in n (items ++ x ∷ []) ≡ (declares name_in n items || is_this (name_in x) n)
 declares_push name_in n items x =
     list_any-append (λ item. is_this (name_in item) n) items (x ∷ []) ∙ ap (λ (b : Bool). declares name_in n items || b) (or_false (is_this (name_in x) n))
 
-places_noted : (name_in : Item → Option Bytes) (table : Table) (items : List Item) (x : Item) → KnowsPlaces name_in table items → KnowsPlaces name_in (noted_in name_in x (length items) table) (items ++ x ∷ [])
+pub places_noted : (name_in : Item → Option Bytes) (table : Table) (items : List Item) (x : Item) → KnowsPlaces name_in table items → KnowsPlaces name_in (noted_in name_in x (length items) table) (items ++ x ∷ [])
 places_noted name_in table items x knows = record {
   place = λ n. place_in-noted name_in x (length items) table n ∙ ap (λ (o : Option ℕ). or_else o (at (is_this (name_in x) n) (length items))) (knows.place n)
       ∙ sym (place_push name_in n items x);
 }
 
-names_noted : (name_in : Item → Option Bytes) (table : Table) (items : List Item) (x : Item) (place : ℕ) → KnowsNames name_in table items → KnowsNames name_in (noted_in name_in x place table) (items ++ x ∷ [])
+pub names_noted : (name_in : Item → Option Bytes) (table : Table) (items : List Item) (x : Item) (place : ℕ) → KnowsNames name_in table items → KnowsNames name_in (noted_in name_in x place table) (items ++ x ∷ [])
 names_noted name_in table items x place knows = record {
   has = λ n. ap is_some (place_in-noted name_in x place table n) ∙ some_either (place_in n table) (is_this (name_in x) n) place
       ∙ ap (λ (b : Bool). b || is_this (name_in x) n) (knows.has n) ∙ sym (declares_push name_in n items x);
 }
 
-members_noted : (table : Table) (items : List Item) (x : Item) (place : ℕ) → KnowsNames member_name table (in_open_block items) → bounds_block x ≡ false
+pub members_noted : (table : Table) (items : List Item) (x : Item) (place : ℕ) → KnowsNames member_name table (in_open_block items) → bounds_block x ≡ false
     → gathered (in_open_block items) x ≡ in_open_block items ++ x ∷ [] → KnowsNames member_name (noted_in member_name x place table) (in_open_block (items ++ x ∷ []))
 members_noted table items x place knows inside more =
     subst (λ (xs : List Item). KnowsNames member_name (noted_in member_name x place table) xs) (sym (gathered_push items x ∙ more)) (names_noted member_name table (in_open_block items) x place knows)
 
-no_members : (items : List Item) (x : Item) → gathered (in_open_block items) x ≡ [] → KnowsNames member_name [] (in_open_block (items ++ x ∷ []))
+pub no_members : (items : List Item) (x : Item) → gathered (in_open_block items) x ≡ [] → KnowsNames member_name [] (in_open_block (items ++ x ∷ []))
 no_members items x none = record { has = λ n. ap (declares member_name n) (sym (gathered_push items x ∙ none)) }
-
-pub knows_none : KnowsAll no_names []
-knows_none = record {
-  classes = record { place = λ n. refl };
-  modules = record { has = λ n. refl };
-  components = record { has = λ n. refl };
-  instances = record { place = λ n. refl };
-  members = record { has = λ n. refl };
-}
-
-pub knows_noted : (names : Names) (items : List Item) (x : Item) → KnowsAll names items → KnowsAll (noted x (length items) names) (items ++ x ∷ [])
-knows_noted names items x knows = record {
-  classes = places_noted class_name names.classes items x knows.classes;
-  modules = names_noted module_name names.modules items x (length items) knows.modules;
-  components = names_noted component_name names.components items x (length items) knows.components;
-  instances = places_noted instance_name names.instances items x knows.instances;
-  members = members x;
-}
-  where
-    members : (y : Item) → KnowsNames member_name (if bounds_block y then [] else noted_in member_name y (length items) names.members) (in_open_block (items ++ y ∷ []))
-    members (Module n) = no_members items (Module n) refl
-    members (Component n ms) = no_members items (Component n ms) refl
-    members End = no_members items End refl
-    members (Class n ps) = members_noted names.members items (Class n ps) (length items) knows.members refl refl
-    members (Provides n t e) = members_noted names.members items (Provides n t e) (length items) knows.members refl refl
-    members (Entry n t) = members_noted names.members items (Entry n t) (length items) knows.members refl refl
-    members (OpenLine n c) = members_noted names.members items (OpenLine n c) (length items) knows.members refl refl
-    members (AskLine i e) = members_noted names.members items (AskLine i e) (length items) knows.members refl refl
 
 -- ---- what the tables answer
 
@@ -301,14 +281,3 @@ class_at table items inst knows = found_first (class_in inst) (λ item. is_this 
     some End e = cc e
     some (OpenLine n c) e = refl
     some (AskLine i x) e = cc e
-
--- ---- one more item
-
-pub is_draft : (items new : List Item) (x : Item) (start place : ℕ) (counts : Counts) (names new_names : Names) → new ≡ items ++ x ∷ [] → BeginsAt (items ++ x ∷ []) start → counts ≡ counts_of (items ++ x ∷ [])
-    → place ≡ length items → new_names ≡ noted x place names → KnowsAll names items → IsDraft new start counts new_names
-is_draft items new x start place counts names new_names added begins counted at_end known knows =
-    subst (λ (xs : List Item). IsDraft xs start counts new_names) (sym added) record {
-      begins = begins;
-      counted = counted;
-      known = subst (λ (t : Names). KnowsAll t (items ++ x ∷ [])) (sym (known ∙ ap (λ (k : ℕ). noted x k names) at_end)) (knows_noted names items x knows);
-    }

@@ -2,6 +2,8 @@ pub mod Gives
 pub mod First
 pub mod Drafts
 pub mod Tables
+pub mod Components
+pub mod Known
 pub mod Adding
 pub mod ReadFaults
 pub mod Evaluation

@@ -1,5 +1,6 @@
 //! Reads a document from its bytes.
 
+mod components;
 mod conditions;
 mod counts;
 mod document;

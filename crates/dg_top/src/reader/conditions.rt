@@ -9,7 +9,6 @@ ghost use Rattle.dg_decl.specs.Bytes as bytes;
 ghost use Rattle.dg_decl.specs.Conditions as conditions;
 ghost use Rattle.dg_decl.specs.Lookup as lookup;
 
-use crate::lookup::entry_of;
 use crate::reader::draft::Draft;
 use dg_decl::{Expr, Item, Param};
 use dg_types::{Name, Shape, TypeUse};
@@ -216,7 +215,7 @@ fn has_entry(inst: &Name, entry: &Name, earlier: &Draft) -> bool
     ensures exact { result ≡ conditions.has_entry entry.now (lookup.class_of inst.now earlier.now) earlier.now }
 {
     match earlier.class_of(inst.as_slice()) {
-        Some(class) => entry_of(class, entry.as_slice(), earlier.items()).is_some(),
+        Some(class) => earlier.declares_entry(class, entry.as_slice()),
         None => false,
     }
 }

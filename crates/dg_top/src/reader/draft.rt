@@ -1,12 +1,12 @@
 //! The items of a document that is being read.
 
-ghost use Rattle.std.specs.Prelude.{◌≡◌, [], ◌∷◌, ◌++◌, slice_get, OnOk, OnErr};
+ghost use Rattle.std.specs.Prelude.{◌≡◌, ◌≤◌, [], ◌∷◌, ◌++◌, length, slice_get, is_some, OnOk, OnErr};
 ghost use Rattle.std.specs.Option.{option_and_then, option_copied, option_map};
 ghost use Rattle.dg_decl.specs.Blocks as blocks;
 ghost use Rattle.dg_decl.specs.Conditions as conditions;
 ghost use Rattle.dg_decl.specs.Lookup as lookup;
 ghost use Rattle.dg_top.specs.Drafts as drafts;
-ghost use Rattle.dg_top.specs.Tables as tables;
+ghost use Rattle.dg_top.specs.Known as known;
 
 use crate::reader::conditions::{is_admitted, may_stand};
 use crate::reader::counts::Counts;
@@ -36,7 +36,7 @@ impl Model for Draft {
 
     ghost coded = { Prim.hlevel (codes, expr.the_row.coded) };
 
-    ghost use Rattle.dg_top.specs.Tables.{IsDraft};
+    ghost use Rattle.dg_top.specs.Known.{IsDraft};
 
     ghost view = { λ d. d.items.items };
 
@@ -60,9 +60,24 @@ fn item_at(items: &[Item], place: usize) -> Option<&Item>
     items.get(place)
 }
 
+/// The header that stands just before a place, if one does.
+fn header_before(items: &[Item], place: usize) -> Option<&Item>
+    requires { place ≤ length items.now }
+    ensures exact { option_copied result ≡ drafts.header_before place items.now }
+{
+    if place == 0 {
+        return None;
+    }
+    let item = &items[place - 1];
+    match item {
+        Item::Module { .. } | Item::Component { .. } => Some(item),
+        _ => None,
+    }
+}
+
 /// The parameters of a class.
 fn fields_of(item: Option<&Item>) -> Option<&[Param]>
-    ensures exact { option_map (λ ps. ps.now) result ≡ option_and_then tables.fields_of (option_copied item.entry) }
+    ensures exact { option_map (λ ps. ps.now) result ≡ option_and_then known.fields_of (option_copied item.entry) }
 {
     match item {
         Some(Item::Class { params, .. }) => Some(params.as_slice()),
@@ -72,7 +87,7 @@ fn fields_of(item: Option<&Item>) -> Option<&[Param]>
 
 /// The component that an `open` line names.
 fn opened_class(item: Option<&Item>) -> Option<&[u8]>
-    ensures exact { option_map (λ c. c.now) result ≡ option_and_then tables.opened_class (option_copied item.entry) }
+    ensures exact { option_map (λ c. c.now) result ≡ option_and_then known.opened_class (option_copied item.entry) }
 {
     match item {
         Some(Item::OpenLine { class, .. }) => Some(class.as_slice()),
@@ -97,14 +112,7 @@ impl Draft {
     pub fn open_block(&self) -> Option<&Item>
         ensures exact { option_copied result ≡ blocks.open_block self.now }
     {
-        if self.block_start == 0 {
-            return None;
-        }
-        let item = &self.items[self.block_start - 1];
-        match item {
-            Item::Module { .. } | Item::Component { .. } => Some(item),
-            _ => None,
-        }
+        header_before(self.items.as_slice(), self.block_start)
     }
 
     /// The items so far.
@@ -123,7 +131,7 @@ impl Draft {
     }
 
     fn declares_class(&self, name: &[u8]) -> bool
-        ensures exact { result ≡ conditions.declares tables.class_name name.now self.now }
+        ensures exact { result ≡ conditions.declares known.class_name name.now self.now }
     {
         self.names.classes.place_of(name).is_some()
     }
@@ -137,7 +145,7 @@ impl Draft {
     pub fn declares_component(&self, name: &[u8]) -> bool
         ensures exact { result ≡ conditions.declares conditions.component_name name.now self.now }
     {
-        self.names.components.place_of(name).is_some()
+        self.names.components.has(name)
     }
 
     pub fn declares_instance(&self, name: &[u8]) -> bool
@@ -173,6 +181,13 @@ impl Draft {
         }
     }
 
+    /// Whether a component has an entry point of this name.
+    pub fn declares_entry(&self, class: &[u8], entry: &[u8]) -> bool
+        ensures exact { result ≡ is_some (lookup.entry_of class.now entry.now self.now) }
+    {
+        self.names.components.has_entry(class, entry)
+    }
+
     /// Whether an item may stand behind those of the draft.
     #[tactic(auto, unfolding(dg_decl::specs::Conditions::may_follow))]
     pub fn may_follow(&self, item: &Item) -> bool
@@ -191,7 +206,8 @@ impl Draft {
         let bounds_block = bounds_block(&item);
         let counts = self.counts.with(&item);
         self.items.reserve(1)?;
-        self.names.note(&item, self.items.len())?;
+        let header = header_before(self.items.as_slice(), self.block_start);
+        self.names.note(header, &item, self.items.len())?;
         self.items.push(item)?;
         self.counts = counts;
         if bounds_block {

@@ -3,7 +3,7 @@ use Rattle.std.specs.Option.{option_and_then}
 use Rattle.std.specs.List.{slice_get}
 use Rattle.dg_decl.specs.declared.item.Item.{Item}
 use Rattle.dg_decl.specs.Lookup.{class_of}
-use Rattle.dg_top.specs.Tables.{opened_class}
+use Rattle.dg_top.specs.Known.{opened_class}
 use Rattle.dg_top.proofs.TableLemmas.{class_at}
 use Rattle.dg_top.proofs.reader.draft.Draft.class_of.Goals as goal
 

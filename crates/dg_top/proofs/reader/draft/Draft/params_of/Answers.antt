@@ -3,7 +3,7 @@ use Rattle.std.specs.Option.{option_and_then}
 use Rattle.std.specs.List.{slice_get}
 use Rattle.dg_decl.specs.declared.item.Item.{Item}
 use Rattle.dg_decl.specs.Lookup.{params_of}
-use Rattle.dg_top.specs.Tables.{fields_of}
+use Rattle.dg_top.specs.Known.{fields_of}
 use Rattle.dg_top.proofs.TableLemmas.{params_at}
 use Rattle.dg_top.proofs.reader.draft.Draft.params_of.Goals as goal
 
