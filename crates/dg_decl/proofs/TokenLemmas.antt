@@ -1,5 +1,5 @@
 -- The tokens of a line, found one after another.
-use Rattle.std.proofs.Common.{ℕ, zero, suc, ◌≡◌, ◌+◌, ◌-◌, ◌≤◌, ◌<◌, false, ◌==◌, List, [], ◌∷◌, ◌++◌, length, take, drop, get_or, Some, None, Result, Ok, Err, refl, ap, ◌∙◌, append_assoc, append-nil, length-drop, arith}
+use Rattle.std.proofs.Common.{ℕ, zero, suc, ◌≡◌, ◌≢◌, ◌+◌, ◌-◌, ◌≤◌, ◌<◌, false, ◌==◌, List, [], ◌∷◌, ◌++◌, length, take, drop, get_or, Some, None, Result, Ok, Err, refl, ap, ◌∙◌, append_assoc, append-nil, length-drop, arith}
 use Rattle.std.proofs.lemmas.List.{drop_more, drop-drop, at_drop_all}
 use Rattle.dg_decl.specs.declared.lex.token.Token.{Token}
 use Rattle.dg_decl.specs.declared.lex.token.TokenKind.{TokenKind}
@@ -45,3 +45,9 @@ pub joined_more : (front : List Token) (at len : ℕ) (z : Bytes) (kind : TokenK
 joined_more front at len z kind within other is moves found =
     let goes = token_first at len (drop at z) kind (omega (arith, length-drop at z)) (not_space at z within other) is moves found in
     joined-before front (token_from kind at len) _ ∙ ap (joined front) (rw (← drop-drop len at z) goes)
+
+-- where a token was found, there are tokens or a bad place
+pub joined_some : (front : List Token) (t : Token) (rest : Result (List Token) ℕ) → joined (front ++ (t ∷ [])) rest ≢ Ok []
+joined_some [] t (Ok ts) none = absurd cc
+joined_some (first ∷ front) t (Ok ts) none = absurd cc
+joined_some front t (Err at) none = absurd cc

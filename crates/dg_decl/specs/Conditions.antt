@@ -1,7 +1,7 @@
 -- What an item asks of the items before it.
-use Rattle.std.specs.Prelude.{ℕ, Bool, true, false, not, ◌&&◌, ◌||◌, List, [], ◌∷◌, length, Option, Some, None, is_some, is_none, if◌then◌else◌, ◌==◌, codes, option_and_then}
+use Rattle.std.specs.Prelude.{Bool, true, false, not, ◌&&◌, List, [], ◌∷◌, length, Option, Some, None, is_some, is_none, ◌==◌, codes}
 use Rattle.std.specs.Str.{bytes_eq}
-use Rattle.std.specs.List.{filter_map, list_any, list_all, zip}
+use Rattle.std.specs.List.{list_any, list_all}
 use Rattle.dg_types.specs.declared.shape.Shape.{Shape}
 use Rattle.dg_types.specs.declared.shape.Shape.TheVariants as shape
 use Rattle.dg_types.specs.declared.shape.TypeUse.{TypeUse}
@@ -11,7 +11,7 @@ use Rattle.dg_decl.specs.declared.item.Item.TheVariants.{Class, Module, Componen
 use Rattle.dg_decl.specs.declared.item.Param.{Param}
 use Rattle.dg_decl.specs.Bytes.{Bytes, is_among}
 use Rattle.dg_decl.specs.Blocks.{open_block, in_open_block, is_module_header, is_component_header}
-use Rattle.dg_decl.specs.Lookup.{params_of, modules_of, class_of, entry_of, bindings}
+use Rattle.dg_decl.specs.Lookup.{params_of, class_of, entry_of, bindings}
 
 -- ---- the block
 

@@ -1,5 +1,5 @@
 -- The lines of a document's bytes.
-use Rattle.std.specs.Prelude.{◌≡◌, ℕ, Bool, true, false, ◌&&◌, ◌||◌, if◌then◌else◌, ◌==◌, nat_le, List, [], ◌∷◌, length, drop, slice_index}
+use Rattle.std.specs.Prelude.{ℕ, Bool, ◌&&◌, if◌then◌else◌, ◌==◌, nat_le, List, [], ◌∷◌, length, drop, slice_index}
 use Rattle.std.specs.List.{list_all, list_any, prefix_len}
 use Rattle.dg_decl.specs.Bytes.{Bytes, line_end, is_plain}
 

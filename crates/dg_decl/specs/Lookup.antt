@@ -1,5 +1,5 @@
 -- What the items of a document declare, looked up by name and by type.
-use Rattle.std.specs.Prelude.{ℕ, Bool, true, false, ◌&&◌, List, [], ◌∷◌, map, Option, Some, None, if◌then◌else◌, option_and_then}
+use Rattle.std.specs.Prelude.{Bool, true, false, List, [], ◌∷◌, Option, Some, None, if◌then◌else◌}
 use Rattle.std.specs.Str.{bytes_eq}
 use Rattle.std.specs.List.{filter_map}
 use Rattle.dg_types.specs.declared.shape.Shape.{Shape}
@@ -7,9 +7,9 @@ use Rattle.dg_types.specs.declared.shape.Shape.TheVariants as shape
 use Rattle.dg_types.specs.declared.shape.TypeUse.{TypeUse}
 use Rattle.dg_decl.specs.declared.expression.Expr.{Expr}
 use Rattle.dg_decl.specs.declared.item.Item.{Item}
-use Rattle.dg_decl.specs.declared.item.Item.TheVariants.{Class, Module, Component, Provides, Entry, End, OpenLine, AskLine}
+use Rattle.dg_decl.specs.declared.item.Item.TheVariants.{Class, Component, Provides, Entry, OpenLine}
 use Rattle.dg_decl.specs.declared.item.Param.{Param}
-use Rattle.dg_decl.specs.Bytes.{Bytes, is_among}
+use Rattle.dg_decl.specs.Bytes.{Bytes}
 use Rattle.dg_decl.specs.Blocks.{placed, is_header_of_module, is_header_of_component}
 
 -- a value, or else the other

@@ -1,5 +1,5 @@
 -- What a line says by itself.
-use Rattle.std.specs.Prelude.{ℕ, Bool, ◌||◌, List, [], ◌∷◌, Option, Some, None, Result, Ok, Err, if◌then◌else◌}
+use Rattle.std.specs.Prelude.{ℕ, ◌||◌, List, Option, Some, None, Result, Ok, Err, if◌then◌else◌}
 use Rattle.dg_decl.specs.declared.lex.token.Token.{Token}
 use Rattle.dg_decl.specs.declared.document.LineMeaning.{LineMeaning}
 use Rattle.dg_decl.specs.declared.document.LineMeaning.TheVariants.{Bad, Nothing, Says}

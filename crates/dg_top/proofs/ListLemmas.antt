@@ -1,7 +1,6 @@
 -- A list is read one member after another, as a loop does.
-use Rattle.std.proofs.Common.{◌≡◌, ℕ, zero, suc, ◌-◌, ◌+◌, ◌≤◌, ◌<◌, Bool, true, false, List, [], ◌∷◌, ◌++◌, Option, Some, None, Err, refl, sym, ap, ◌∙◌, append_assoc, arith}
+use Rattle.std.proofs.Common.{◌≡◌, ℕ, suc, ◌-◌, ◌+◌, ◌≤◌, ◌<◌, Bool, true, false, List, [], ◌∷◌, ◌++◌, Option, Some, None, Err, refl, sym, ap, ◌∙◌, append_assoc, arith}
 use Rattle.std.specs.Prelude.{codes}
-use Rattle.std.proofs.lemmas.List.{append-nil}
 use Rattle.dg_decl.specs.declared.lex.token.TokenKind.TheVariants as kind
 use Rattle.dg_decl.specs.Forms.{Lexeme, Reader, then_reads, pure, eaten, list_of}
 use Rattle.dg_top.specs.declared.reader.fault.FormFault.{FormFault}

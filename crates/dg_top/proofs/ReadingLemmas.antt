@@ -1,6 +1,6 @@
 -- A document is read line by line.
 use Rattle.std.proofs.Common.{◌≡◌, ◌≢◌, ℕ, zero, suc, ◌+◌, ◌-◌, ◌<◌, ◌≤◌, Bool, true, false, inl, inr, List, [], ◌∷◌, ◌++◌, length, get_or, take, drop, Option, Some, None, refl, sym, ap, subst, ◌∙◌, append_assoc, arith}
-use Rattle.std.specs.Prelude.{IsSome, is_some, ◌==◌}
+use Rattle.std.specs.Prelude.{IsSome, is_some, ◌==◌, ◌||◌, if◌then◌else◌}
 use Rattle.std.specs.List.{filter_map, cons_option}
 use Rattle.std.proofs.lemmas.List.Elements.{filter_map-append}
 use Rattle.std.specs.Option.{option_to_list, option_map, option_copied}
@@ -10,13 +10,16 @@ use Rattle.std.proofs.lemmas.List.{append-nil, length-take-le, length-drop, take
 use Rattle.dg_decl.specs.declared.document.Doc.{Doc}
 use Rattle.dg_decl.specs.declared.item.Item.{Item}
 use Rattle.dg_decl.specs.Bytes.{Bytes}
-use Rattle.dg_decl.specs.Lines.{lines_of, rest_of}
+use Rattle.dg_decl.specs.Lines.{lines_of, rest_of, is_printable, is_blank, is_comment}
+use Rattle.dg_decl.specs.Tokens.{tokens_of}
+use Rattle.dg_decl.specs.declared.document.LineMeaning.{LineMeaning}
 use Rattle.dg_decl.specs.declared.document.LineMeaning.TheVariants.{Bad, Nothing, Says}
 use Rattle.dg_decl.specs.Conditions.{may_follow}
-use Rattle.dg_decl.specs.Meaning.{meaning_of, item_of}
+use Rattle.dg_decl.specs.Meaning.{meaning_of, meaning_of_tokens, item_of}
 use Rattle.dg_decl.specs.Blocks.{open_block}
 use Rattle.dg_decl.specs.Reading.{items_of, with_place, places_from, places_of, is_good, is_good_at, IsBad, bad_line, bad_rest, bad_end, FirstBad, Reads}
-use Rattle.dg_top.specs.Adding.{Adds}
+use Rattle.dg_top.specs.Adding.{Adds, IsOfTokens}
+use Rattle.dg_top.specs.ReadFaults.{HasLineOfTokens}
 
 -- ---- one element more of a list
 
@@ -93,6 +96,13 @@ nothing_read bytes = record {
   places_are = refl;
   good = λ n one none. absurd (omega arith);
 }
+
+-- the next line is of tokens
+pub has_line_of_tokens : (bytes : Bytes) (number : ℕ) (text line more : Bytes) (items : List Item) (places : List ℕ)
+    → HasRead bytes number text items places → lines_of text ≡ line ∷ lines_of more → IsOfTokens line → HasLineOfTokens bytes
+has_line_of_tokens bytes number text line more items places read first tokens =
+    let next = next_of (lines_of bytes) number line [] (lines_of more) (read.lines_left ∙ first) in
+    (number, next.below, subst (λ (z : Bytes). IsOfTokens z) (sym next.here) tokens)
 
 -- line number + 1 of the text
 good_here : (bytes : Bytes) (number : ℕ) (text line more : Bytes) (items : List Item) (places : List ℕ) → HasRead bytes number text items places → IsNext (lines_of bytes) number line [] (lines_of more) → is_good_at (lines_of bytes) (number + 1) ≡ is_good line items
@@ -176,9 +186,19 @@ is_read bytes number text doc read none behind empty closed =
 
 -- ---- what one line adds
 
+says_behind : (printable skipped : Bool) (meaning : LineMeaning) (item : Item) → (if printable then (if skipped then Nothing else meaning) else Bad) ≡ Says item → (printable ≡ true) × (skipped ≡ false)
+says_behind false skipped meaning item says = absurd cc
+says_behind true true meaning item says = absurd cc
+says_behind true false meaning item says = (refl, refl)
+
+-- a line that says an item is of tokens
+pub says_of_tokens : (line : Bytes) (item : Item) → meaning_of line ≡ Says item → IsOfTokens line
+unfolding meaning_of
+says_of_tokens line item says = says_behind (is_printable line) (is_blank line || is_comment line) (meaning_of_tokens line (tokens_of line)) item says
+
 pub adds_bad : (line : Bytes) (number : ℕ) (items : List Item) (places : List ℕ) → meaning_of line ≡ Bad → Adds line number items items places places false
 unfolding is_good
-adds_bad line number items places says = record { answer = rw says refl; item = λ e. absurd (false≢true e); place = λ e. absurd (false≢true e) }
+adds_bad line number items places says = record { answer = rw says refl; item = λ e. absurd (false≢true e); place = λ e. absurd (false≢true e); kept = λ _. (refl, refl) }
 
 pub adds_nothing : (line : Bytes) (number : ℕ) (items : List Item) (places : List ℕ) → meaning_of line ≡ Nothing → Adds line number items items places places true
 unfolding is_good item_of
@@ -186,15 +206,17 @@ adds_nothing line number items places says = record {
   answer = rw says refl;
   item = λ _. rw says (sym (append-nil items));
   place = λ _. rw says (sym (append-nil places));
+  kept = λ e. absurd (false≢true (sym e));
 }
 
 pub adds_item : (line : Bytes) (number : ℕ) (items new : List Item) (places new_places : List ℕ) (item : Item) (good : Bool)
-    → meaning_of line ≡ Says item → good ≡ may_follow item items → new ≡ items ++ item ∷ [] → new_places ≡ places ++ number ∷ [] → Adds line number items new places new_places good
+    → meaning_of line ≡ Says item → good ≡ may_follow item items → good ≡ true → new ≡ items ++ item ∷ [] → new_places ≡ places ++ number ∷ [] → Adds line number items new places new_places good
 unfolding is_good item_of
-adds_item line number items new places new_places item good says follows added placed = record {
+adds_item line number items new places new_places item good says follows holds added placed = record {
   answer = rw says follows;
   item = λ _. rw says added;
   place = λ _. rw says placed;
+  kept = λ e. absurd (false≢true (sym e ∙ holds));
 }
 
 pub refuses_item : (line : Bytes) (number : ℕ) (items : List Item) (places : List ℕ) (item : Item) (good : Bool)
@@ -204,6 +226,7 @@ refuses_item line number items places item good says follows bad = record {
   answer = rw says follows;
   item = λ e. absurd (false≢true (sym bad ∙ e));
   place = λ e. absurd (false≢true (sym bad ∙ e));
+  kept = λ _. (refl, refl);
 }
 
 -- ---- tests at the end

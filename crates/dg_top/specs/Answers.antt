@@ -1,5 +1,5 @@
 -- The answer to what a source gave.
-use Rattle.std.specs.Prelude.{◌≡◌, ◌≤◌, ◌+◌, ℕ, List, [], length, Option}
+use Rattle.std.specs.Prelude.{◌≤◌, ◌+◌, [], length, Option}
 use Rattle.std.specs.Io.KnownBytes.{Consumes, IsAtEnd}
 use Rattle.dg_top.specs.declared.status.Status.{Status}
 use Rattle.dg_top.specs.declared.status.Status.TheVariants.{TooLong}

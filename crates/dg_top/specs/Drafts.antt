@@ -1,7 +1,7 @@
 -- What a draft of a document keeps beside its items: where the open block begins.
 use Rattle.std.specs.Prelude.{◌≡◌, ℕ, Bool, true, false, zero, suc, ◌≤◌, List, length, drop, slice_get, Option, Some, None}
 use Rattle.dg_decl.specs.declared.item.Item.{Item}
-use Rattle.dg_decl.specs.declared.item.Item.TheVariants.{Class, Module, Component, Provides, Entry, End, OpenLine, AskLine}
+use Rattle.dg_decl.specs.declared.item.Item.TheVariants.{Module, Component, End}
 use Rattle.dg_decl.specs.Blocks.{open_block, in_open_block}
 
 -- an item that opens or ends a block

@@ -1,5 +1,5 @@
 -- How reading a source ends.
-use Rattle.std.specs.Prelude.{◌≡◌, ℕ, ◌+◌, ◌≤◌, List, length, Option, Result, Ok, Err}
+use Rattle.std.specs.Prelude.{◌≡◌, ℕ, ◌+◌, ◌≤◌, length, Option, Result, Ok, Err}
 use Rattle.std.specs.Global.{Vec}
 use Rattle.std.specs.Io.KnownBytes.{Consumes, IsAtEnd}
 use Rattle.dg_io.specs.Causes.{Rose}
@@ -16,10 +16,10 @@ pub record EndsInput (left new_left : Option Bytes) (faults new_faults : ℕ) (b
   pub within : length bytes ≤ document_limit
   pub no_fault : new_faults ≡ faults
 
--- Failed comes only where the count of faults rose, and TooLong where the byte past the limit was taken. Want of memory
--- says nothing.
+-- Failed comes only where the count of faults rose, TooLong where the byte past the limit was taken, and NoMemory where
+-- no call failed.
 abbrev pub HasInputCause : Option Bytes → Option Bytes → ℕ → ℕ → Result (Vec ℕ) InputFault → Type 0
 HasInputCause left new_left faults new_faults (Ok bytes) = Unit {0}
 HasInputCause left new_left faults new_faults (Err fault.Failed) = Rose faults new_faults
 HasInputCause left new_left faults new_faults (Err fault.TooLong) = TakesExactly (document_limit + 1) left new_left × (new_faults ≡ faults)
-HasInputCause left new_left faults new_faults (Err fault.NoMemory) = Unit {0}
+HasInputCause left new_left faults new_faults (Err fault.NoMemory) = new_faults ≡ faults

@@ -1,6 +1,6 @@
 //! What is written for a document that is read.
 
-ghost use Rattle.std.specs.Prelude.{◌≡◌, ◌++◌, ◌≤◌, ◌<◌, ◌^◌, ◌-◌, ℕ, IfOk, OnOk, decimal, take, drop, vec_len};
+ghost use Rattle.std.specs.Prelude.{◌≡◌, ◌++◌, ◌≤◌, ◌<◌, ◌^◌, ◌-◌, ◌+◌, ℕ, IfOk, OnOk, OnErr, decimal, take, drop, length, vec_len};
 ghost use Rattle.std.specs.Fmt.{signed_decimal};
 ghost use Rattle.std.specs.Option.{option_copied};
 ghost use Rattle.dg_top.specs.Evaluation as evaluation;
@@ -94,6 +94,7 @@ fn push_later_fields(
     mut args: &[Expr],
 ) -> Result<(), NoMemory>
     ensures exact { OnOk result (out.new.items ≡ out.old.items ++ printing.later_fields (evaluation.fields_of params.entry.now args.entry.now)) }
+    ensures cause { OnErr result ((0 < length params.entry.now) × (0 < length args.entry.now)) }
 {
     while let [param, more_params @ ..] = params {
         let [arg, more_args @ ..] = args else {
@@ -110,6 +111,7 @@ fn push_later_fields(
 /// Prints the fields of an object, with commas between.
 fn push_field_list(out: &mut Vec<u8>, params: &[Param], args: &[Expr]) -> Result<(), NoMemory>
     ensures exact { OnOk result (out.new.items ≡ out.old.items ++ spec.field_list (evaluation.fields_of params.now args.now)) }
+    ensures cause { OnErr result ((0 < length params.now) × (0 < length args.now)) }
 {
     let [param, more_params @ ..] = params else {
         return Ok(());
@@ -183,6 +185,7 @@ fn push_value(
 fn cut_from(out: &mut Vec<u8>, start: usize) -> Result<(), NoMemory>
     requires { start ≤ vec_len out.old }
     ensures exact { OnOk result (out.new.items ≡ take start out.old.items ++ spec.cut (drop start out.old.items)) }
+    ensures cause { OnErr result (start + spec.value_limit < vec_len out.old) }
 {
     if out.len() - start > VALUE_LIMIT {
         out.truncate(start + VALUE_LIMIT);

@@ -69,6 +69,7 @@ fn answer_source<S: Source>(alloc: Global, source: &mut S) -> Result<Answer, Sta
     ensures kept { IfOk result (λ _. S.faults source.new ≡ S.faults source.old) }
     ensures cause { IfErr result (λ s. ((s ≡ Status.ReadFault) × Rose (S.faults source.old) (S.faults source.new)) ⊎ (s ≡ Status.NoMemory)) }
     ensures faults { S.faults source.old ≤ S.faults source.new }
+    ensures no_fault { IfErr result (λ s. s ≢ Status.ReadFault → S.faults source.new ≡ S.faults source.old) }
     ensures bound { TakesAtMost (document_limit + 1) (S.left source.old) (S.left source.new) }
 {
     let answered = match read_all(alloc, source) {
@@ -111,6 +112,9 @@ pub fn run_top<S: Source, K: Sink, G: Gate + Send>(
     ensures at_end { (result ≡ Status.Ran) ⊎ (result ≡ Status.BadLine) → IsAtEnd (S.left source.new) }
     ensures bound { TakesAtMost (document_limit + 1) (S.left source.old) (S.left source.new) }
     ensures faults { (S.faults source.old ≤ S.faults source.new) × (K.faults sink.old ≤ K.faults sink.new) }
+    ensures read_kept { result ≢ Status.ReadFault → S.faults source.new ≡ S.faults source.old }
+    ensures write_kept { result ≢ Status.WriteFault → K.faults sink.new ≡ K.faults sink.old }
+    ensures unwritten { result ≡ Status.ReadFault → sink.new ≡ sink.old }
     ensures kept { gates.new ≡ gates.old }
 {
     if !words.is_empty() {

@@ -13,7 +13,8 @@ use std::alloc::Global;
 pub fn tokens(alloc: Global, line: &[u8]) -> Result<Vec<Token>, LexFault>
     requires { length line.now ≤ 4096 }
     ensures exact { IfOk result (λ ts. spec.tokens_of line.now ≡ Ok ts.items) }
-    // Bad comes exactly where no token begins at that place and all before it are tokens and spaces.
+    // Bad comes exactly where no token begins at that place and all before it are tokens and spaces, and NoMemory only
+    // where a token begins.
     ensures cause { HasNoTokens (spec.tokens_of line.now) result }
 {
     let mut found = Vec::new(alloc);

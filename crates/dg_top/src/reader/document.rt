@@ -1,8 +1,8 @@
 //! Reads a document, line by line.
 
-ghost use Rattle.std.specs.Prelude.{◌≡◌, ◌≤◌, ◌<◌, ◌^◌, length, IfOk};
+ghost use Rattle.std.specs.Prelude.{◌≡◌, ◌≤◌, ◌<◌, ◌^◌, length, IfOk, OnErr};
 ghost use Rattle.dg_decl.specs.Reading.{Reads};
-ghost use Rattle.dg_top.specs.Adding.{Adds};
+ghost use Rattle.dg_top.specs.Adding.{Adds, IsOfTokens};
 ghost use Rattle.dg_top.specs.ReadFaults.{RefusesFirst};
 
 use crate::reader::draft::Draft;
@@ -24,6 +24,7 @@ fn add_line(
     places: &mut Vec<u32>,
 ) -> Result<bool, NoMemory>
     ensures exact { IfOk result (λ good. Adds line.now number draft.old draft.new places.old.items places.new.items good) }
+    ensures cause { OnErr result (IsOfTokens line.now) }
 {
     match meaning_of(alloc, line)? {
         LineMeaning::Bad => Ok(false),
@@ -43,7 +44,7 @@ fn add_line(
 pub fn read_doc(alloc: Global, bytes: &[u8]) -> Result<Doc, ReadDocFault>
     requires { length bytes.now ≤ 4194304 }
     ensures exact { IfOk result (Reads bytes.now) }
-    // BadLine comes exactly at the first bad line.
+    // BadLine comes exactly at the first bad line, and NoMemory only where a line is of tokens.
     ensures cause { RefusesFirst bytes.now result }
 {
     let mut draft = Draft::new(alloc);

@@ -1,8 +1,9 @@
 //! The forms of lines.
 
-ghost use Rattle.std.specs.Prelude.{◌≡◌, false, IfOk};
+ghost use Rattle.std.specs.Prelude.{◌≡◌, ◌<◌, false, length, IfOk, IfErr, OnErr};
 ghost use Rattle.dg_decl.specs.Forms as forms;
 ghost use Rattle.dg_top.specs.Gives.{Gives, GivesBy};
+ghost use Rattle.dg_top.specs.declared.reader.fault.FormFault.TheVariants as fault;
 
 use crate::reader::fault::FormFault;
 use crate::reader::lexemes::Lexemes;
@@ -17,12 +18,16 @@ const LIST_LIMIT: usize = 32;
 
 fn keyword(tokens: &mut Lexemes<'_>, word: &[u8]) -> Result<(), FormFault>
     ensures exact { GivesBy (λ _. tt) (forms.keyword word.now tokens.old) result tokens.new }
+    ensures cause { IfErr result (λ e. e ≡ fault.NoForm) }
+    ensures kept { OnErr result (tokens.new ≡ tokens.old) }
 {
     tokens.take(TokenKind::Name, word)
 }
 
 fn sign(tokens: &mut Lexemes<'_>, sign: &[u8]) -> Result<(), FormFault>
     ensures exact { GivesBy (λ _. tt) (forms.sign sign.now tokens.old) result tokens.new }
+    ensures cause { IfErr result (λ e. e ≡ fault.NoForm) }
+    ensures kept { OnErr result (tokens.new ≡ tokens.old) }
 {
     tokens.take(TokenKind::Sign, sign)
 }
@@ -36,6 +41,7 @@ fn name(alloc: Global, tokens: &mut Lexemes<'_>) -> Result<Name, FormFault>
 /// What stands between the quotes of a text, without the `\` before each `"` and `\`.
 fn unescaped(alloc: Global, inner: &[u8]) -> Result<Vec<u8>, NoMemory>
     ensures exact { IfOk result (λ v. v.items ≡ forms.unescaped false inner.now) }
+    ensures cause { OnErr result (0 < length inner.now) }
 {
     let mut value = Vec::new(alloc);
     let mut escaped = false;
@@ -53,6 +59,7 @@ fn unescaped(alloc: Global, inner: &[u8]) -> Result<Vec<u8>, NoMemory>
 #[tactic(auto, unfolding(dg_decl::specs::Forms::value_of_text))]
 fn value_of_text(alloc: Global, spelled: &[u8]) -> Result<Text, NoMemory>
     ensures exact { IfOk result (λ t. t ≡ forms.value_of_text spelled.now) }
+    ensures cause { OnErr result (2 < length spelled.now) }
 {
     let inner = if spelled.len() < 2 {
         &[]
@@ -72,6 +79,7 @@ fn text(alloc: Global, tokens: &mut Lexemes<'_>) -> Result<Text, FormFault>
 #[tactic(auto, unfolding(dg_decl::specs::Forms::integer))]
 fn integer(tokens: &mut Lexemes<'_>) -> Result<i64, FormFault>
     ensures exact { Gives (forms.integer tokens.old) result tokens.new }
+    ensures cause { IfErr result (λ e. e ≡ fault.NoForm) }
 {
     match value_of_integer(tokens.spelled(TokenKind::Integer)?) {
         Some(n) => Ok(n),
@@ -149,6 +157,7 @@ fn text_constant(alloc: Global, tokens: &mut Lexemes<'_>) -> Result<Expr, FormFa
 #[tactic(auto, unfolding(dg_decl::specs::Forms::integer_constant))]
 fn integer_constant(tokens: &mut Lexemes<'_>) -> Result<Expr, FormFault>
     ensures exact { Gives (forms.integer_constant tokens.old) result tokens.new }
+    ensures cause { IfErr result (λ e. e ≡ fault.NoForm) }
 {
     Ok(Expr::Int(integer(tokens)?))
 }
@@ -279,6 +288,7 @@ fn entry_line(alloc: Global, tokens: &mut Lexemes<'_>) -> Result<Item, FormFault
 #[tactic(auto, unfolding(dg_decl::specs::Forms::end_line))]
 fn end_line(tokens: &mut Lexemes<'_>) -> Result<Item, FormFault>
     ensures exact { Gives (forms.end_line tokens.old) result tokens.new }
+    ensures cause { IfErr result (λ e. e ≡ fault.NoForm) }
 {
     sign(tokens, b"}")?;
     tokens.end()?;

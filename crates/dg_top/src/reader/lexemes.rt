@@ -1,8 +1,9 @@
 //! The tokens of a line, one after another.
 
-ghost use Rattle.std.specs.Prelude.{◌≡◌, Some, drop};
+ghost use Rattle.std.specs.Prelude.{◌≡◌, Some, drop, IfErr, OnErr};
 ghost use Rattle.dg_decl.specs.Forms as forms;
-ghost use Rattle.dg_top.specs.Gives.{Gives, GivesBy};
+ghost use Rattle.dg_top.specs.Gives.{GivesBy};
+ghost use Rattle.dg_top.specs.declared.reader.fault.FormFault.TheVariants as fault;
 
 use crate::reader::fault::FormFault;
 use dg_decl::lex::{Token, TokenKind, spelling};
@@ -57,6 +58,8 @@ impl<'a> Lexemes<'a> {
     #[tactic(auto, unfolding(dg_decl::specs::Forms::taken))]
     pub fn take(&mut self, kind: TokenKind, spelled: &[u8]) -> Result<(), FormFault>
         ensures exact { GivesBy (λ _. tt) (forms.taken kind spelled.now self.old) result self.new }
+        ensures cause { IfErr result (λ e. e ≡ fault.NoForm) }
+        ensures kept { OnErr result (self.new ≡ self.old) }
     {
         if !self.comes(kind, spelled) {
             return Err(FormFault::NoForm);
@@ -81,6 +84,8 @@ impl<'a> Lexemes<'a> {
     #[tactic(auto, unfolding(dg_decl::specs::Forms::spelled))]
     pub fn spelled(&mut self, kind: TokenKind) -> Result<&'a [u8], FormFault>
         ensures exact { GivesBy (λ z. z.now) (forms.spelled kind self.old) result self.new }
+        ensures cause { IfErr result (λ e. e ≡ fault.NoForm) }
+        ensures kept { OnErr result (self.new ≡ self.old) }
     {
         match self.tokens {
             [token, rest @ ..] if token.kind == kind => {
@@ -95,6 +100,7 @@ impl<'a> Lexemes<'a> {
     #[tactic(auto, unfolding(dg_decl::specs::Forms::at_end))]
     pub fn end(&self) -> Result<(), FormFault>
         ensures exact { GivesBy (λ _. tt) (forms.at_end self.now) result self.now }
+        ensures cause { IfErr result (λ e. e ≡ fault.NoForm) }
     {
         if self.tokens.is_empty() {
             Ok(())

@@ -1,10 +1,11 @@
 //! What a line says by itself.
 
-ghost use Rattle.std.specs.Prelude.{◌≡◌, ◌||◌, IfOk};
+ghost use Rattle.std.specs.Prelude.{◌≡◌, ◌||◌, IfOk, OnErr};
 ghost use Rattle.std.specs.List.{list_all};
 ghost use Rattle.dg_decl.specs.Bytes as bytes;
 ghost use Rattle.dg_decl.specs.Lines as lines;
 ghost use Rattle.dg_decl.specs.Meaning as meaning;
+ghost use Rattle.dg_top.specs.Adding.{IsOfTokens};
 
 use crate::reader::fault::FormFault;
 use crate::reader::forms::item_line;
@@ -54,6 +55,7 @@ fn is_blank_or_comment(line: &[u8]) -> bool
 #[tactic(auto, unfolding(dg_decl::specs::Meaning::meaning_of))]
 pub fn meaning_of(alloc: Global, line: &[u8]) -> Result<LineMeaning, NoMemory>
     ensures exact { IfOk result (λ m. m ≡ meaning.meaning_of line.now) }
+    ensures cause { OnErr result (IsOfTokens line.now) }
 {
     if !is_printable(line) {
         return Ok(LineMeaning::Bad);

@@ -1,5 +1,5 @@
 use Rattle.std.proofs.Common.{take, drop, arith, rules}
-use Rattle.std.proofs.lemmas.List.{take_rest, length-drop, length-take}
+use Rattle.std.proofs.lemmas.List.{take_rest, length-drop}
 use Rattle.std.proofs.Math.Seq.{take-add}
 use Rattle.dg_top.proofs.StreamLemmas.{appends_then}
 use Rattle.dg_top.proofs.output.write_all.Goals as goal

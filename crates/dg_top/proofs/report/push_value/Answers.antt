@@ -1,4 +1,3 @@
-use Rattle.std.proofs.Common.{◌++◌, ap, sym, ◌∙◌}
 use Rattle.dg_top.proofs.PrintLemmas.{new_object}
 use Rattle.dg_top.proofs.report.push_value.Goals as goal
 

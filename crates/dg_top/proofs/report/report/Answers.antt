@@ -1,9 +1,7 @@
-use Rattle.std.proofs.Common.{◌≡◌, ◌+◌, Some, None, refl, sym}
-use Rattle.std.specs.Option.{option_copied}
+use Rattle.std.proofs.Common.{◌≡◌, Some, None, refl, sym}
 use Rattle.dg_decl.specs.Bytes.{Bytes}
-use Rattle.dg_decl.specs.declared.expression.Expr.{Expr}
 use Rattle.dg_top.specs.Evaluation.{body_of_ask}
-use Rattle.dg_top.proofs.NumberLemmas.{IsReported, none_reported, other_item, silent_ask, next_reply, all_reported, no_ask, report_ends}
+use Rattle.dg_top.proofs.NumberLemmas.{none_reported, other_item, silent_ask, next_reply, all_reported, no_ask, report_ends}
 use Rattle.dg_top.proofs.report.report.Goals as goal
 use Rattle.dg_top.proofs.report.report.Goals.{in-AskLine+in-Some+in_ok-objects, in-AskLine+in_default-body_of_ask, in_default}
 

@@ -1,6 +1,6 @@
-use Rattle.std.proofs.Common.{sym, ◌∙◌, ◌≡◌, List, []}
+use Rattle.std.proofs.Common.{sym, ◌∙◌, ◌≡◌, []}
 use Rattle.std.proofs.lemmas.Result.{IfOk-at_ok}
-use Rattle.dg_top.specs.Answers.{Answers, to_all}
+use Rattle.dg_top.specs.Answers.{to_all}
 use Rattle.dg_top.specs.Output.{IsOutput, too_long_text}
 use Rattle.dg_top.specs.declared.run.Answer.{Answer}
 use Rattle.dg_top.specs.declared.status.Status.TheVariants.{TooLong}

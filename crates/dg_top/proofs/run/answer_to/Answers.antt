@@ -1,5 +1,4 @@
 use Rattle.std.proofs.lemmas.Result.{IfOk-weaker}
-use Rattle.dg_top.specs.Output.{IsOutput}
 use Rattle.dg_top.proofs.RunLemmas.{answer_ran, answer_bad}
 use Rattle.dg_top.proofs.run.answer_to.Goals as goal
 

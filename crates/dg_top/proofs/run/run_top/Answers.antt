@@ -51,6 +51,9 @@ returns-in-Ok-write_all-clause-too_long g c =
 pub returns-in-Ok-write_all-clause-read_fault : goal.returns-in-Ok-write_all-clause-read_fault
 returns-in-Ok-write_all-clause-read_fault g c = λ same. absurd (run.isnt_read_fault _ _ c.in-Ok.answer.status c.in-Ok.answer.text.items c.in-Ok.ensures.exact same)
 
+pub returns-in-Ok-write_all-clause-unwritten : goal.returns-in-Ok-write_all-clause-unwritten
+returns-in-Ok-write_all-clause-unwritten g c = λ same. absurd (run.isnt_read_fault _ _ c.in-Ok.answer.status c.in-Ok.answer.text.items c.in-Ok.ensures.exact same)
+
 pub returns-in-Ok-write_all-clause-write_fault : goal.returns-in-Ok-write_all-clause-write_fault
 returns-in-Ok-write_all-clause-write_fault g c = λ same. absurd (run.isnt_write_fault _ _ c.in-Ok.answer.status c.in-Ok.answer.text.items c.in-Ok.ensures.exact same)
 

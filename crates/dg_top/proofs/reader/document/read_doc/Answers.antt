@@ -1,6 +1,7 @@
-use Rattle.std.proofs.Common.{Bool, ◌+◌, sym, subst, ◌∙◌, arith}
+use Rattle.std.proofs.Common.{Bool, ◌+◌, sym, subst, ◌∙◌, arith, rules}
 use Rattle.dg_top.specs.Adding.{Adds}
-use Rattle.dg_top.proofs.ReadingLemmas.{nothing_read, goes_on, is_bad, rest_is_bad, end_is_bad, is_read, is_empty_text, isnt_empty_text, is_open, is_closed}
+use Rattle.dg_top.specs.ReadFaults.{HasLineOfTokens}
+use Rattle.dg_top.proofs.ReadingLemmas.{nothing_read, goes_on, has_line_of_tokens, is_bad, rest_is_bad, end_is_bad, is_read, is_empty_text, isnt_empty_text, is_open, is_closed}
 use Rattle.dg_top.proofs.reader.document.read_doc.Goals as goal
 use Rattle.dg_top.proofs.reader.document.read_doc.Goals.{then-not-is_empty-via-then-not-is_empty, then-not-is_empty-via-else-not-is_empty+then-is_some}
 
@@ -11,6 +12,13 @@ pub returns-then-not-branch-clause-cause : goal.returns-then-not-branch-clause-c
 returns-then-not-branch-clause-cause c =
     is_bad c.args.bytes.now c.loop-line.number c.loop-line.rest.now c.in-Some.line.now c.in-Some.more.now c.loop-line.draft c.loop-line.places.items c.loop-line.invariant.read
     c.in-Some.ensures.lines (sym c.in_ok-add_line.ensures.exact.answer ∙ c.if-not-branch.true)
+
+pub returns-in_err-add_line-clause-cause : goal.returns-in_err-add_line-clause-cause
+returns-in_err-add_line-clause-cause c =
+    let some : HasLineOfTokens c.args.bytes.now =
+    has_line_of_tokens c.args.bytes.now c.loop-line.number c.loop-line.rest.now c.in-Some.line.now c.in-Some.more.now c.loop-line.draft c.loop-line.places.items c.loop-line.invariant.read
+    c.in-Some.ensures.lines c.in_err-add_line.ensures.cause in
+    search (rules, some)
 
 pub loop-line-preserved : goal.loop-line-preserved
 loop-line-preserved c =

@@ -1,7 +1,6 @@
-use Rattle.std.proofs.Common.{ap, arith, rules, ◌∙◌}
 use Rattle.std.proofs.lemmas.Result.{err_from_is_err_and}
 use Rattle.dg_decl.specs.Forms as forms
-use Rattle.dg_top.proofs.ListLemmas.{with_front, begins, goes_on, ends, fails, is_full}
+use Rattle.dg_top.proofs.ListLemmas.{begins, goes_on, ends, fails, is_full}
 use Rattle.dg_top.proofs.reader.forms.param_list.Goals as goal
 
 pub loop-turn-init : goal.loop-turn-init
