@@ -1,7 +1,7 @@
 -- In which block an item stands.
 use Rattle.std.specs.Prelude.{Bool, true, false, List, [], ◌∷◌, ◌++◌, fold, Option, Some, None}
 use Rattle.std.specs.Str.{bytes_eq}
-use Rattle.dg_decl.specs.Bytes.{Bytes, is_among}
+use Rattle.dg_decl.specs.Bytes.{Bytes}
 use Rattle.dg_decl.specs.declared.item.Item.{Item}
 use Rattle.dg_decl.specs.declared.item.Item.TheVariants.{Class, Module, Component, Provides, Entry, End, OpenLine, AskLine}
 
@@ -52,12 +52,6 @@ abbrev pub is_component_header : Option Item → Bool
 is_component_header (Some (Component n ms)) = true
 is_component_header (Some item) = false
 is_component_header None = false
-
--- the header of one of these modules
-abbrev pub is_header_of_module : List Bytes → Option Item → Bool
-is_header_of_module modules (Some (Module n)) = is_among n modules
-is_header_of_module modules (Some item) = false
-is_header_of_module modules None = false
 
 -- the header of this component
 abbrev pub is_header_of_component : Bytes → Option Item → Bool

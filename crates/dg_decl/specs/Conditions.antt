@@ -1,5 +1,5 @@
 -- What an item asks of the items before it.
-use Rattle.std.specs.Prelude.{Bool, true, false, not, ◌&&◌, List, [], ◌∷◌, length, Option, Some, None, is_some, is_none, ◌==◌, codes}
+use Rattle.std.specs.Prelude.{Bool, true, false, not, ◌&&◌, List, [], ◌∷◌, Option, Some, None, is_some, is_none, codes}
 use Rattle.std.specs.Str.{bytes_eq}
 use Rattle.std.specs.List.{list_any, list_all}
 use Rattle.dg_types.specs.declared.shape.Shape.{Shape}
@@ -11,7 +11,7 @@ use Rattle.dg_decl.specs.declared.item.Item.TheVariants.{Class, Module, Componen
 use Rattle.dg_decl.specs.declared.item.Param.{Param}
 use Rattle.dg_decl.specs.Bytes.{Bytes, is_among}
 use Rattle.dg_decl.specs.Blocks.{open_block, in_open_block, is_module_header, is_component_header}
-use Rattle.dg_decl.specs.Lookup.{params_of, class_of, entry_of, bindings}
+use Rattle.dg_decl.specs.Lookup.{params_of, class_of, entry_of}
 
 -- ---- the block
 
@@ -142,31 +142,19 @@ checks e t earlier = layer_checks (out-Expr e) t.shape earlier
 
 -- ---- the condition of each item
 
--- the modules of the component whose block is open
-abbrev pub open_modules : Option Item → List Bytes
-open_modules (Some (Component n ms)) = ms
-open_modules (Some item) = []
-open_modules None = []
-
--- exactly one `provides` line of the modules of the component with this header gives this type
-abbrev pub is_bound_once : Option Item → TypeUse → List Item → Bool
-is_bound_once header t earlier = length (bindings (open_modules header) t earlier) == 1
-
 abbrev pub has_entry : Bytes → Option Bytes → List Item → Bool
 has_entry entry None earlier = false
 has_entry entry (Some class) earlier = is_some (entry_of class entry earlier)
 
 -- Each name that the item mentions was declared before as the kind that its place wants, the name that it declares
--- is new, and its constant has its type. There is one module and one component at most, and an entry point only
--- where exactly one `provides` line of the component's modules gives its type.
+-- is new, and its constant has its type. There is one module and one component at most.
 abbrev pub is_admitted : Item → List Item → Bool
 is_admitted (Class n ps) earlier = is_new n earlier && list_all is_basic_param ps && are_distinct ps
 is_admitted (Module n) earlier = is_new n earlier && not (has_some module_name earlier)
 is_admitted (Component n ms) earlier =
     is_new n earlier && not (has_some component_name earlier) && list_all (λ m. declares module_name m earlier) ms
 is_admitted (Provides n t b) earlier = is_new_member n earlier && is_known_shape t.shape earlier && checks b t earlier
-is_admitted (Entry n t) earlier =
-    is_new_member n earlier && is_known_shape t.shape earlier && is_bound_once (open_block earlier) t earlier
+is_admitted (Entry n t) earlier = is_new_member n earlier && is_known_shape t.shape earlier
 is_admitted End earlier = true
 is_admitted (OpenLine n c) earlier = not (declares instance_name n earlier) && declares component_name c earlier
 is_admitted (AskLine i e) earlier = has_entry e (class_of i earlier) earlier

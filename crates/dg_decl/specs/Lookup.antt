@@ -7,10 +7,10 @@ use Rattle.dg_types.specs.declared.shape.Shape.TheVariants as shape
 use Rattle.dg_types.specs.declared.shape.TypeUse.{TypeUse}
 use Rattle.dg_decl.specs.declared.expression.Expr.{Expr}
 use Rattle.dg_decl.specs.declared.item.Item.{Item}
-use Rattle.dg_decl.specs.declared.item.Item.TheVariants.{Class, Component, Provides, Entry, OpenLine}
+use Rattle.dg_decl.specs.declared.item.Item.TheVariants.{Class, Module, Component, Provides, Entry, OpenLine}
 use Rattle.dg_decl.specs.declared.item.Param.{Param}
-use Rattle.dg_decl.specs.Bytes.{Bytes}
-use Rattle.dg_decl.specs.Blocks.{placed, is_header_of_module, is_header_of_component}
+use Rattle.dg_decl.specs.Bytes.{Bytes, is_among}
+use Rattle.dg_decl.specs.Blocks.{placed, is_header_of_component}
 
 -- a value, or else the other
 abbrev pub or_else : {B : Type 0} → Option B → Option B → Option B
@@ -72,14 +72,26 @@ same_shape s t = false
 abbrev pub same_type : TypeUse → TypeUse → Bool
 same_type s t = same_shape s.shape t.shape
 
--- what a `provides` line that gives this type gives, where it stands in one of the modules
-abbrev pub body_in : Bool → TypeUse → Item → Option Expr
-body_in true type (Provides n t b) = if same_type t type then Some b else None
-body_in stands type item = None
+-- a binding: the module that owns it, the name of its `provides` line, and the body that the line gives
+pub record Binding : Type 0 where
+  pub owner : Bytes
+  pub name : Bytes
+  pub body : Expr
 
-abbrev pub binding_in : List Bytes → TypeUse → Option Item × Item → Option Expr
-binding_in modules type p = body_in (is_header_of_module modules p.0) type p.1
+-- the module with this header, where it is one of these
+abbrev pub module_in : List Bytes → Option Item → Option Bytes
+module_in modules (Some (Module n)) = if is_among n modules then Some n else None
+module_in modules (Some item) = None
+module_in modules None = None
 
--- the bodies of the `provides` lines in these modules that give this type
-abbrev pub bindings : List Bytes → TypeUse → List Item → List Expr
+-- the binding of a `provides` line that gives this type, where it stands in a module
+abbrev pub binding_of : TypeUse → Option Bytes → Item → Option Binding
+binding_of type (Some m) (Provides n t b) = if same_type t type then Some (record { owner = m; name = n; body = b }) else None
+binding_of type m item = None
+
+abbrev pub binding_in : List Bytes → TypeUse → Option Item × Item → Option Binding
+binding_in modules type p = binding_of type (module_in modules p.0) p.1
+
+-- the bindings of this type in these modules, in order of declaration
+abbrev pub bindings : List Bytes → TypeUse → List Item → List Binding
 bindings modules type items = filter_map (binding_in modules type) (placed items)

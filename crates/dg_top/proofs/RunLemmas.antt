@@ -1,6 +1,7 @@
 -- What a run has done when it ends, without words.
 use Rattle.std.proofs.Common.{◌≡◌, ◌≢◌, ◌⊎◌, inl, inr, ℕ, ◌+◌, ◌<◌, ◌≤◌, Bool, true, false, List, [], ◌++◌, length, take, Option, Some, None, refl, sym, ap, subst, ◌∙◌, arith}
 use Rattle.std.specs.Prelude.{map, ◌==◌}
+use Rattle.std.specs.List.{flat_map}
 use Rattle.std.specs.Io.KnownBytes.{Appends, Consumes, IsAtEnd}
 use Rattle.std.proofs.lemmas.Bool.{eqb-true, eqb-false}
 use Rattle.std.proofs.lemmas.List.{append-nil, append_cancel_left, length-append, length-take, length-map, nil_from_length}
@@ -9,11 +10,13 @@ use Rattle.dg_decl.specs.declared.document.Doc.{Doc}
 use Rattle.dg_decl.specs.declared.item.Item.{Item}
 use Rattle.dg_decl.specs.Reading.{FirstBad, Reads}
 use Rattle.dg_top.specs.Report.{report}
+use Rattle.dg_top.specs.declared.rules.violation.Violation.{Violation}
+use Rattle.dg_top.specs.Rules.{violations, line_of, diagnostics}
 use Rattle.dg_top.specs.declared.status.Status.{Status}
 use Rattle.dg_top.specs.declared.status.Status.TheVariants.{Ran, Refused, BadWords, BadLine, ReadFault, WriteFault, NoMemory, TooLong}
-use Rattle.dg_top.specs.Output.{document_limit, too_long_text, bad_line_text, IsOutput, bad_words, too_long, bad_line, ran}
-use Rattle.dg_top.specs.Runs.{WritesAll, WritesFront, Writes, TakesExactly, BadLineExactly, TooLongExactly, IsComplete}
-use Rattle.dg_top.specs.Answers.{Answers, to_all, to_long}
+use Rattle.dg_top.specs.Output.{document_limit, too_long_text, bad_line_text, IsOutput, bad_words, too_long, bad_line, refused, ran}
+use Rattle.dg_top.specs.Runs.{WritesAll, WritesFront, Writes, TakesExactly, BadLineExactly, RefusedExactly, TooLongExactly, IsComplete}
+use Rattle.dg_top.specs.Answers.{Answers, to_all, to_long, AnswersItems, to_broken, to_good}
 use Rattle.dg_top.proofs.StreamLemmas.{appends_none}
 use Rattle.dg_top.proofs.OutputLemmas.{only_output, outputs_once, some_text}
 
@@ -46,7 +49,7 @@ IsDone : Status → Type 0
 IsDone Ran = Unit {0}
 IsDone BadLine = Unit {0}
 IsDone TooLong = Unit {0}
-IsDone Refused = ⊥
+IsDone Refused = Unit {0}
 IsDone BadWords = ⊥
 IsDone ReadFault = ⊥
 IsDone WriteFault = ⊥
@@ -57,7 +60,8 @@ unfolding IsDone
 output_done bytes status text (bad_words some) = absurd (some refl)
 output_done bytes status text (too_long none over) = tt
 output_done bytes status text (bad_line none within first) = tt
-output_done bytes status text (ran none within reads) = tt
+output_done bytes status text (refused none within reads broken) = tt
+output_done bytes status text (ran none within reads good) = tt
 
 answer_done : (left new_left : Option Bytes) (status : Status) (text : Bytes) → Answers left new_left status text → IsDone status
 unfolding IsDone
@@ -87,7 +91,7 @@ unfolding IsDone
 writes_done bytes old new Ran done all = all
 writes_done bytes old new BadLine done all = all
 writes_done bytes old new TooLong done all = all
-writes_done bytes old new Refused done all = absurd done
+writes_done bytes old new Refused done all = all
 writes_done bytes old new BadWords done all = absurd done
 writes_done bytes old new ReadFault done all = absurd done
 writes_done bytes old new WriteFault done all = absurd done
@@ -141,13 +145,28 @@ bad_line_is : (bytes : Bytes) (status : Status) (text : Bytes) → IsOutput [] b
 bad_line_is bytes status text (bad_words some) same = absurd cc
 bad_line_is bytes status text (too_long none over) same = absurd cc
 bad_line_is bytes status text (bad_line {n = n} none within first) same = (n, within, first, refl)
-bad_line_is bytes status text (ran none within reads) same = absurd cc
+bad_line_is bytes status text (refused none within reads broken) same = absurd cc
+bad_line_is bytes status text (ran none within reads good) same = absurd cc
+
+refused_is : (bytes : Bytes) (status : Status) (text : Bytes) → IsOutput [] bytes status text → status ≡ Refused → (doc : Doc) × (length bytes ≤ document_limit) × Reads bytes doc × (violations doc.items ≢ []) × (text ≡ diagnostics doc.items)
+refused_is bytes status text (bad_words some) same = absurd cc
+refused_is bytes status text (too_long none over) same = absurd cc
+refused_is bytes status text (bad_line none within first) same = absurd cc
+refused_is bytes status text (refused {doc = doc} none within reads broken) same = (doc, within, reads, broken, refl)
+refused_is bytes status text (ran none within reads good) same = absurd cc
 
 pub bad_line_written : (left new_left old new : Option Bytes) (status : Status) (text : Bytes) → Answers left new_left status text → Appends old new text → BadLineExactly [] left old new status
 bad_line_written left new_left old new status text answers appended bytes before told known =
     let output = outputs left new_left status text bytes answers told in (
       λ same. (let line = bad_line_is bytes status text output same in (line.0, refl, line.1, line.2, appended_is old new before text known appended ∙ ap (λ (v : Bytes). Some (before ++ v)) line.3)),
       λ line. sym (only_output [] bytes status BadLine text (bad_line_text line.0) output (bad_line refl line.2 line.3)).0,
+    )
+
+pub refused_written : (left new_left old new : Option Bytes) (status : Status) (text : Bytes) → Answers left new_left status text → Appends old new text → RefusedExactly [] left old new status
+refused_written left new_left old new status text answers appended bytes before told known =
+    let output = outputs left new_left status text bytes answers told in (
+      λ same. (let is = refused_is bytes status text output same in (is.0, refl, is.1, is.2, is.3, appended_is old new before text known appended ∙ ap (λ (v : Bytes). Some (before ++ v)) is.4)),
+      λ is. sym (only_output [] bytes status Refused text (diagnostics is.0.items) output (refused refl is.2 is.3 is.4)).0,
     )
 
 pub too_long_written : (left new_left old new : Option Bytes) (status : Status) (text : Bytes) → Answers left new_left status text → Appends old new text → TooLongExactly [] left new_left old new status
@@ -160,22 +179,30 @@ too_long_written left new_left old new status text answers appended bytes before
     within_isnt bytes status text within (bad_words some) same = absurd cc
     within_isnt bytes status text within (too_long none over) same = absurd (omega arith)
     within_isnt bytes status text within (bad_line none less first) same = absurd cc
-    within_isnt bytes status text within (ran none less reads) same = absurd cc
+    within_isnt bytes status text within (refused none less reads broken) same = absurd cc
+    within_isnt bytes status text within (ran none less reads good) same = absurd cc
 
     long_taken : (left new_left : Option Bytes) (status : Status) (text xs : Bytes) → Answers left new_left status text → left ≡ Some xs → status ≡ TooLong → TakesExactly (document_limit + 1) left new_left × (text ≡ too_long_text)
     long_taken left new_left status text xs (to_all bytes taken end within output) told same = absurd (within_isnt bytes status text within output same)
     long_taken left new_left status text xs (to_long takes) told same = (takes, refl)
 
 -- nothing was written
+is_neither : (status : Status) (C : Type 0) (other : Status) → ((status ≡ ReadFault) × C) ⊎ (status ≡ NoMemory) → status ≡ other → (other ≡ ReadFault → ⊥) → (other ≡ NoMemory → ⊥) → ⊥
+is_neither status C other (inl read) same one two = one (sym same ∙ read.0)
+is_neither status C other (inr memory) same one two = two (sym same ∙ memory)
+
 pub bad_line_unwritten : (left old : Option Bytes) (status : Status) (C : Type 0) → ((status ≡ ReadFault) × C) ⊎ (status ≡ NoMemory) → BadLineExactly [] left old old status
 bad_line_unwritten left old status C cause bytes before told known = (
   λ same. absurd (is_neither status C BadLine cause same (λ e. absurd cc) (λ e. absurd cc)),
   λ line. absurd (no_growth before (bad_line_text line.0) (some_text bytes BadLine (bad_line_text line.0) (bad_line refl line.2 line.3)) (some_is before (before ++ bad_line_text line.0) (sym known ∙ line.4))),
 )
-  where
-    is_neither : (status : Status) (C : Type 0) (other : Status) → ((status ≡ ReadFault) × C) ⊎ (status ≡ NoMemory) → status ≡ other → (other ≡ ReadFault → ⊥) → (other ≡ NoMemory → ⊥) → ⊥
-    is_neither status C other (inl read) same one two = one (sym same ∙ read.0)
-    is_neither status C other (inr memory) same one two = two (sym same ∙ memory)
+
+pub refused_unwritten : (left old : Option Bytes) (status : Status) (C : Type 0) → ((status ≡ ReadFault) × C) ⊎ (status ≡ NoMemory) → RefusedExactly [] left old old status
+refused_unwritten left old status C cause bytes before told known = (
+  λ same. absurd (is_neither status C Refused cause same (λ e. absurd cc) (λ e. absurd cc)),
+  λ is. (let text : Bytes = diagnostics is.0.items in
+      absurd (no_growth before text (some_text bytes Refused text (refused refl is.2 is.3 is.4)) (some_is before (before ++ text) (sym known ∙ is.5)))),
+)
 
 pub too_long_unwritten : (left new_left old : Option Bytes) (status : Status) (C : Type 0) → ((status ≡ ReadFault) × C) ⊎ (status ≡ NoMemory) → TooLongExactly [] left new_left old old status
 too_long_unwritten left new_left old status C cause bytes before told known = (
@@ -202,6 +229,13 @@ bad_line_front left new_left old new status text n answers less appended bytes b
       λ line. absurd (front_isnt bytes before old new status BadLine text (bad_line_text line.0) n output (bad_line refl line.2 line.3) less appended known line.4),
     )
 
+pub refused_front : (left new_left old new : Option Bytes) (status : Status) (text : Bytes) (n : ℕ) → Answers left new_left status text → n < length text → Appends old new (take n text) → RefusedExactly [] left old new WriteFault
+refused_front left new_left old new status text n answers less appended bytes before told known =
+    let output = outputs left new_left status text bytes answers told in (
+      λ same. absurd (let e : WriteFault ≡ Refused = same in cc),
+      λ is. absurd (front_isnt bytes before old new status Refused text (diagnostics is.0.items) n output (refused refl is.2 is.3 is.4) less appended known is.5),
+    )
+
 pub too_long_front : (left new_left old new : Option Bytes) (status : Status) (text : Bytes) (n : ℕ) → Answers left new_left status text → n < length text → Appends old new (take n text) → TooLongExactly [] left new_left old new WriteFault
 too_long_front left new_left old new status text n answers less appended bytes before told known =
     let output = outputs left new_left status text bytes answers told in (
@@ -214,10 +248,11 @@ is_complete left new_left a b c d status text answers bytes other_text other tol
     inl (sym (only_output [] bytes status other text other_text (outputs left new_left status text bytes answers told) output).0)
 
 -- the source was read to its end
-pub read_to_end : (left new_left : Option Bytes) (status : Status) (text : Bytes) → Answers left new_left status text → (status ≡ Ran) ⊎ (status ≡ BadLine) → IsAtEnd new_left
+pub read_to_end : (left new_left : Option Bytes) (status : Status) (text : Bytes) → Answers left new_left status text → (status ≡ Ran) ⊎ (status ≡ Refused) ⊎ (status ≡ BadLine) → IsAtEnd new_left
 read_to_end left new_left status text (to_all bytes taken end within output) done = end
 read_to_end left new_left status text (to_long takes) (inl same) = absurd (let e : TooLong ≡ Ran = same in cc)
-read_to_end left new_left status text (to_long takes) (inr same) = absurd (let e : TooLong ≡ BadLine = same in cc)
+read_to_end left new_left status text (to_long takes) (inr (inl same)) = absurd (let e : TooLong ≡ Refused = same in cc)
+read_to_end left new_left status text (to_long takes) (inr (inr same)) = absurd (let e : TooLong ≡ BadLine = same in cc)
 
 -- ---- words
 
@@ -229,8 +264,22 @@ some_words bytes_of words empty is fails none = eqb-false _ _ (sym is ∙ fails)
 
 -- ---- answers to bytes
 
-pub answer_ran : (bytes : Bytes) (doc : Doc) (items : List Item) (text : Bytes) → length bytes ≤ document_limit → Reads bytes doc → items ≡ doc.items → text ≡ report items → IsOutput [] bytes Ran text
-answer_ran bytes doc items text within reads same is = subst (λ (x : Bytes). IsOutput [] bytes Ran x) (sym (is ∙ ap report same)) (ran refl within reads)
+-- the report where no violation was found, and the lines of those that were found
+pub answer_good : (items : List Item) (vs : List Violation) (text : Bytes) → vs ≡ violations items → length vs ≡ 0 → text ≡ report items → AnswersItems items Ran text
+answer_good items vs text found none is = subst (λ (x : Bytes). AnswersItems items Ran x) (sym is) (to_good (sym found ∙ nil_from_length vs none))
+
+pub answer_broken : (items : List Item) (vs : List Violation) (text : Bytes) → vs ≡ violations items → length vs ≢ 0 → text ≡ flat_map line_of vs → AnswersItems items Refused text
+unfolding diagnostics
+answer_broken items vs text found some is =
+    subst (λ (x : Bytes). AnswersItems items Refused x) (sym (is ∙ ap (flat_map line_of) found)) (to_broken (λ none. some (ap length (found ∙ none))))
+
+-- the answer to the items of a document that is read is the output
+pub answer_read : (bytes : Bytes) (doc : Doc) (items : List Item) (status : Status) (text : Bytes) → length bytes ≤ document_limit → Reads bytes doc → items ≡ doc.items → AnswersItems items status text → IsOutput [] bytes status text
+answer_read bytes doc items status text within reads same answers = of_doc bytes doc status text within reads (subst (λ (xs : List Item). AnswersItems xs status text) same answers)
+  where
+    of_doc : (bytes : Bytes) (doc : Doc) (status : Status) (text : Bytes) → length bytes ≤ document_limit → Reads bytes doc → AnswersItems doc.items status text → IsOutput [] bytes status text
+    of_doc bytes doc status text within reads (to_broken broken) = refused refl within reads broken
+    of_doc bytes doc status text within reads (to_good good) = ran refl within reads good
 
 pub answer_bad : (bytes : Bytes) (line : ℕ) (status : Status) (text : Bytes) → length bytes ≤ document_limit → FirstBad bytes line → status ≡ BadLine → text ≡ bad_line_text line → IsOutput [] bytes status text
 answer_bad bytes line status text within first same is =

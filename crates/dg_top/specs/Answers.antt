@@ -1,11 +1,19 @@
--- The answer to what a source gave.
-use Rattle.std.specs.Prelude.{◌≤◌, ◌+◌, [], length, Option}
+-- The answers to a document and to what a source gave.
+use Rattle.std.specs.Prelude.{◌≡◌, ◌≢◌, ◌≤◌, ◌+◌, List, [], length, Option}
 use Rattle.std.specs.Io.KnownBytes.{Consumes, IsAtEnd}
 use Rattle.dg_top.specs.declared.status.Status.{Status}
-use Rattle.dg_top.specs.declared.status.Status.TheVariants.{TooLong}
+use Rattle.dg_top.specs.declared.status.Status.TheVariants.{Ran, Refused, TooLong}
+use Rattle.dg_decl.specs.declared.item.Item.{Item}
 use Rattle.dg_decl.specs.Bytes.{Bytes}
+use Rattle.dg_top.specs.Report.{report}
+use Rattle.dg_top.specs.Rules.{violations, diagnostics}
 use Rattle.dg_top.specs.Output.{document_limit, too_long_text, IsOutput}
 use Rattle.dg_top.specs.Runs.{TakesExactly}
+
+-- the diagnostics of a document, or the report of one without violations
+pub data AnswersItems (items : List Item) : Status → Bytes → Type 0 where
+  to_broken : violations items ≢ [] → AnswersItems items Refused (diagnostics items)
+  to_good : violations items ≡ [] → AnswersItems items Ran (report items)
 
 -- all bytes were taken and this is their output without words, or the byte past the limit was taken
 pub data Answers (left new_left : Option Bytes) : Status → Bytes → Type 0 where

@@ -6,7 +6,7 @@ use Rattle.dg_decl.specs.declared.expression.Expr.{Expr, Expr-F, out-Expr}
 use Rattle.dg_decl.specs.declared.item.Item.{Item}
 use Rattle.dg_decl.specs.declared.item.Param.{Param}
 use Rattle.dg_decl.specs.Bytes.{Bytes}
-use Rattle.dg_decl.specs.Lookup.{params_of, modules_of, class_of, entry_of, bindings}
+use Rattle.dg_decl.specs.Lookup.{Binding, params_of, modules_of, class_of, entry_of, bindings}
 use Rattle.dg_top.specs.First.{head}
 
 -- Where an object is made, which is its identity: the number of the ask for whose entry point it is made, and which
@@ -52,9 +52,13 @@ layer_value items ask (Expr-F.New c xs) = Object c (record { ask = ask; made = 1
 abbrev pub evaluate : List Item → ℕ → Expr → Value
 evaluate items ask body = layer_value items ask (out-Expr body)
 
+-- the body of the first binding of this type in these modules
+abbrev pub first_body : List Bytes → TypeUse → List Item → Option Expr
+first_body modules type items = option_map (λ (b : Binding). b.body) (head (bindings modules type items))
+
 -- the body that is bound to this type in a component
 abbrev pub bound_in : List Item → Bytes → TypeUse → Option Expr
-bound_in items class type = option_and_then (λ modules. head (bindings modules type items)) (modules_of class items)
+bound_in items class type = option_and_then (λ modules. first_body modules type items) (modules_of class items)
 
 -- the body that answers an entry point of a component
 abbrev pub body_of_entry : List Item → Bytes → Bytes → Option Expr
@@ -64,6 +68,6 @@ body_of_entry items entry class = option_and_then (bound_in items class) (entry_
 unfoldable pub body_of_ask : List Item → Bytes × Bytes → Option Expr
 body_of_ask items ask = option_and_then (body_of_entry items ask.1) (class_of ask.0 items)
 
--- The value of an ask, an instance and an entry point, with its number. In a document that is read each ask has one.
+-- The value of an ask, an instance and an entry point, with its number. In a document that breaks no rule each ask has one.
 abbrev pub value_of_ask : List Item → ℕ → Bytes × Bytes → Option Value
 value_of_ask items number ask = option_map (evaluate items number) (body_of_ask items ask)

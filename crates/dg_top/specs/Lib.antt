@@ -6,6 +6,7 @@ pub mod ReadFaults
 pub mod Evaluation
 pub mod Report
 pub mod Printing
+pub mod Rules
 pub mod Status
 pub mod Output
 pub mod Runs

@@ -1,11 +1,12 @@
 -- The status and the text that belong to words and bytes.
 use Rattle.std.specs.Prelude.{◌≡◌, ◌≢◌, ◌<◌, ◌≤◌, ℕ, List, [], ◌∷◌, ◌++◌, length, codes, decimal}
 use Rattle.dg_top.specs.declared.status.Status.{Status}
-use Rattle.dg_top.specs.declared.status.Status.TheVariants.{Ran, BadWords, BadLine, TooLong}
+use Rattle.dg_top.specs.declared.status.Status.TheVariants.{Ran, Refused, BadWords, BadLine, TooLong}
 use Rattle.dg_decl.specs.declared.document.Doc.{Doc}
 use Rattle.dg_decl.specs.Bytes.{Bytes, line_end}
 use Rattle.dg_decl.specs.Reading.{FirstBad, Reads}
 use Rattle.dg_top.specs.Report.{report}
+use Rattle.dg_top.specs.Rules.{violations, diagnostics}
 
 -- the most bytes of a document
 abbrev pub document_limit : ℕ
@@ -18,12 +19,13 @@ unfoldable pub bad_line_text : ℕ → Bytes
 bad_line_text n = codes "bad line " ++ decimal n ++ line_end ∷ []
 
 -- These words and bytes have this status and text. The first case that fits is the only one: words that the program
--- doesn't have, then too many bytes, then a bad line, and then the report of the document.
+-- doesn't have, then too many bytes, then a bad line, then violations, and then the report of the document.
 pub data IsOutput (words : List Bytes) (bytes : Bytes) : Status → Bytes → Type 0 where
   bad_words : words ≢ [] → IsOutput words bytes BadWords []
   too_long : words ≡ [] → document_limit < length bytes → IsOutput words bytes TooLong too_long_text
   bad_line : {n : ℕ} → words ≡ [] → length bytes ≤ document_limit → FirstBad bytes n → IsOutput words bytes BadLine (bad_line_text n)
-  ran : {doc : Doc} → words ≡ [] → length bytes ≤ document_limit → Reads bytes doc → IsOutput words bytes Ran (report doc.items)
+  refused : {doc : Doc} → words ≡ [] → length bytes ≤ document_limit → Reads bytes doc → violations doc.items ≢ [] → IsOutput words bytes Refused (diagnostics doc.items)
+  ran : {doc : Doc} → words ≡ [] → length bytes ≤ document_limit → Reads bytes doc → violations doc.items ≡ [] → IsOutput words bytes Ran (report doc.items)
 
 -- there is one status and text for these words and bytes, and no other
 pub record HasOneOutput (words : List Bytes) (bytes : Bytes) : Type 0 where

@@ -1,11 +1,13 @@
 -- What a run has done when it ends.
-use Rattle.std.specs.Prelude.{◌≡◌, ◌⊎◌, ◌↔◌, ℕ, ◌+◌, ◌<◌, ◌≤◌, List, [], ◌++◌, length, take, Option, Some, None, ⊤}
+use Rattle.std.specs.Prelude.{◌≡◌, ◌≢◌, ◌⊎◌, ◌↔◌, ℕ, ◌+◌, ◌<◌, ◌≤◌, List, [], ◌++◌, length, take, Option, Some, None, ⊤}
 use Rattle.std.specs.Io.KnownBytes.{Appends, Consumes}
 use Rattle.dg_io.specs.Causes.{Rose}
 use Rattle.dg_top.specs.declared.status.Status.{Status}
 use Rattle.dg_top.specs.declared.status.Status.TheVariants.{Ran, Refused, BadWords, BadLine, ReadFault, WriteFault, NoMemory, TooLong}
 use Rattle.dg_decl.specs.Bytes.{Bytes}
-use Rattle.dg_decl.specs.Reading.{FirstBad}
+use Rattle.dg_decl.specs.declared.document.Doc.{Doc}
+use Rattle.dg_decl.specs.Reading.{FirstBad, Reads}
+use Rattle.dg_top.specs.Rules.{violations, diagnostics}
 use Rattle.dg_top.specs.Output.{document_limit, too_long_text, bad_line_text, IsOutput}
 
 -- the known bytes are followed by the whole output for these words and bytes
@@ -43,6 +45,13 @@ abbrev pub BadLineExactly : List Bytes → Option Bytes → Option Bytes → Opt
 BadLineExactly words left old new status =
     (bytes before : Bytes) → left ≡ Some bytes → old ≡ Some before
     → (status ≡ BadLine) ↔ ((n : ℕ) × (words ≡ []) × (length bytes ≤ document_limit) × FirstBad bytes n × (new ≡ Some (before ++ bad_line_text n)))
+
+-- where both ends tell their bytes, the status is Refused exactly where a document that isn't too long is read, it has
+-- violations, and their lines were written
+abbrev pub RefusedExactly : List Bytes → Option Bytes → Option Bytes → Option Bytes → Status → Type 0
+RefusedExactly words left old new status =
+    (bytes before : Bytes) → left ≡ Some bytes → old ≡ Some before
+    → (status ≡ Refused) ↔ ((doc : Doc) × (words ≡ []) × (length bytes ≤ document_limit) × Reads bytes doc × (violations doc.items ≢ []) × (new ≡ Some (before ++ diagnostics doc.items)))
 
 -- where both ends tell their bytes, the status is TooLong exactly where the byte past the limit was taken, and its
 -- text was written

@@ -6,6 +6,7 @@ mod lookup;
 mod output;
 mod reader;
 mod report;
+mod rules;
 mod run;
 mod status;
 

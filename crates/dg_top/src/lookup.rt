@@ -1,15 +1,17 @@
 //! What the items of a document declare, looked up by name and by type.
 
-ghost use Rattle.std.specs.Prelude.{◌≡◌, length, Option};
+ghost use Rattle.std.specs.Prelude.{◌≡◌, Option, IfOk};
 ghost use Rattle.std.specs.Option.{option_copied, option_map};
 ghost use Rattle.dg_decl.specs.declared.item.Item.{Item};
 ghost use Rattle.dg_decl.specs.Blocks as blocks;
 ghost use Rattle.dg_decl.specs.Bytes as bytes;
 ghost use Rattle.dg_decl.specs.Lookup as lookup;
-ghost use Rattle.dg_top.specs.First.{head};
+ghost use Rattle.dg_top.specs.Evaluation as evaluation;
 
 use dg_decl::{Expr, Item, Param};
-use dg_types::{Name, Shape, TypeUse};
+use dg_types::{Name, NoMemory, Shape, TypeUse};
+use std::alloc::Global;
+use std::marker::Model;
 
 /// Whether one of the names has these bytes.
 pub fn is_among(name: &[u8], names: &[Name]) -> bool
@@ -93,54 +95,80 @@ pub fn same_type(a: &TypeUse, b: &TypeUse) -> bool
     same_shape(&a.shape, &b.shape)
 }
 
-/// Whether the items behind this one stand in one of the modules, where it is known of the item itself.
-fn stands_behind(stands: bool, item: &Item, modules: &[Name]) -> bool
-    ensures exact { (h : Option Item) → stands ≡ blocks.is_header_of_module modules.now h
-        → result ≡ blocks.is_header_of_module modules.now (blocks.open_after h item.now) }
+/// A binding: the module and the name of its `provides` line, and the body that the line gives. It borrows the document.
+#[derive(Drop)]
+pub struct Binding<'a> {
+    pub owner: &'a Name,
+    pub name: &'a Name,
+    pub body: &'a Expr,
+}
+
+impl<'a> Model for Binding<'a> {
+    ghost use Rattle.std.specs.Coded.{codes};
+    ghost use Rattle.dg_decl.specs.contracts.expression.Expr as expr;
+    ghost use Rattle.dg_decl.specs.Lookup.{Binding};
+
+    ghost Value = { Binding };
+
+    ghost coded = { Prim.hlevel (codes, expr.the_row.coded) };
+
+    ghost view = { λ b. record { owner = b.owner.now; name = b.name.now; body = b.body.now } };
+}
+
+/// The module, of these, in which the items behind this one stand, where it is known of the item itself.
+fn module_behind<'a>(owner: Option<&'a Name>, item: &'a Item, modules: &[Name]) -> Option<&'a Name>
+    ensures exact { (h : Option Item) → option_copied owner.entry ≡ lookup.module_in modules.now h
+        → option_copied result ≡ lookup.module_in modules.now (blocks.open_after h item.now) }
 {
     match item {
-        Item::Module { name } => is_among(name.as_slice(), modules),
-        Item::Component { .. } | Item::End => false,
-        _ => stands,
+        Item::Module { name } if is_among(name.as_slice(), modules) => Some(name),
+        Item::Module { .. } | Item::Component { .. } | Item::End => None,
+        _ => owner,
     }
 }
 
-/// What a `provides` line that gives this type gives, where it stands in one of the modules.
-fn body_in<'a>(stands: bool, wanted: &TypeUse, item: &'a Item) -> Option<&'a Expr>
-    ensures exact { option_copied result ≡ lookup.body_in stands wanted.now item.now }
+/// The binding of a `provides` line that gives this type, where it stands in a module.
+fn binding_of<'a>(wanted: &TypeUse, owner: Option<&'a Name>, item: &'a Item) -> Option<Binding<'a>>
+    ensures exact { result ≡ lookup.binding_of wanted.now (option_copied owner.entry) item.now }
 {
-    match item {
-        Item::Provides { result, body, .. } if stands && same_type(result, wanted) => Some(body),
+    match (owner, item) {
+        (Some(owner), Item::Provides { name, result, body }) if same_type(result, wanted) => {
+            Some(Binding { owner, name, body })
+        }
         _ => None,
     }
 }
 
-/// The body of the first `provides` line in these modules that gives this type.
-pub fn first_binding<'a>(modules: &[Name], wanted: &TypeUse, items: &'a [Item]) -> Option<&'a Expr>
-    ensures exact { option_copied result ≡ head (lookup.bindings modules.now wanted.now items.now) }
+/// The body of the first binding of this type in these modules.
+pub fn first_body<'a>(modules: &[Name], wanted: &TypeUse, items: &'a [Item]) -> Option<&'a Expr>
+    ensures exact { option_copied result ≡ evaluation.first_body modules.now wanted.now items.now }
 {
-    let mut stands = false;
+    let mut owner = None;
     for item in items {
-        let body = body_in(stands, wanted, item);
-        if body.is_some() {
-            return body;
+        if let Some(binding) = binding_of(wanted, owner, item) {
+            return Some(binding.body);
         }
-        stands = stands_behind(stands, item, modules);
+        owner = module_behind(owner, item, modules);
     }
     None
 }
 
-/// How many `provides` lines in these modules give this type.
-pub fn count_bindings(modules: &[Name], wanted: &TypeUse, items: &[Item]) -> usize
-    ensures exact { result ≡ length (lookup.bindings modules.now wanted.now items.now) }
+/// The bindings of this type in these modules, in order of declaration.
+pub fn bindings<'a>(
+    alloc: Global,
+    modules: &[Name],
+    wanted: &TypeUse,
+    items: &'a [Item],
+) -> Result<Vec<Binding<'a>>, NoMemory>
+    ensures exact { IfOk result (λ found. found.items ≡ lookup.bindings modules.now wanted.now items.now) }
 {
-    let mut stands = false;
-    let mut count = 0;
+    let mut found = Vec::new(alloc);
+    let mut owner = None;
     for item in items {
-        if body_in(stands, wanted, item).is_some() {
-            count += 1;
+        if let Some(binding) = binding_of(wanted, owner, item) {
+            found.push(binding)?;
         }
-        stands = stands_behind(stands, item, modules);
+        owner = module_behind(owner, item, modules);
     }
-    count
+    Ok(found)
 }

@@ -7,7 +7,7 @@ ghost use Rattle.dg_top.specs.Evaluation as evaluation;
 ghost use Rattle.dg_top.specs.Printing as printing;
 ghost use Rattle.dg_top.specs.Report as spec;
 
-use crate::lookup::{class_of, entry_of, first_binding, modules_of, params_of};
+use crate::lookup::{class_of, entry_of, first_body, modules_of, params_of};
 use dg_decl::{Expr, Item, Param};
 use dg_types::NoMemory;
 use itoa::Buffer;
@@ -26,7 +26,7 @@ fn body_of_ask<'a>(items: &'a [Item], inst: &[u8], entry: &[u8]) -> Option<&'a E
 {
     let class = class_of(inst, items)?;
     let wanted = entry_of(class, entry, items)?;
-    first_binding(modules_of(class, items)?, wanted, items)
+    first_body(modules_of(class, items)?, wanted, items)
 }
 
 fn push_decimal(out: &mut Vec<u8>, n: usize) -> Result<(), NoMemory>

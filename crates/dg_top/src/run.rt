@@ -4,14 +4,16 @@ ghost use Rattle.std.specs.Prelude.{◌≡◌, ◌≢◌, ◌⊎◌, ◌↔◌, 
 ghost use Rattle.std.specs.Io.KnownBytes.{Appends, IsAtEnd};
 ghost use Rattle.dg_io.specs.Causes.{Rose};
 ghost use Rattle.dg_top.specs.Output.{document_limit, too_long_text, bad_line_text, IsOutput, OneOutput};
-ghost use Rattle.dg_top.specs.Runs.{Writes, TakesAtMost, BadLineExactly, TooLongExactly, IsComplete};
-ghost use Rattle.dg_top.specs.Answers.{Answers};
+ghost use Rattle.dg_top.specs.Runs.{Writes, TakesAtMost, BadLineExactly, RefusedExactly, TooLongExactly, IsComplete};
+ghost use Rattle.dg_top.specs.Answers.{Answers, AnswersItems};
 
 use crate::input::{InputFault, read_all};
 use crate::output::write_all;
 use crate::reader::{ReadDocFault, read_doc};
 use crate::report::report;
+use crate::rules::{lines, violations};
 use crate::status::Status;
+use dg_decl::Item;
 use dg_io::{Gate, Sink, Source};
 use dg_types::NoMemory;
 use itoa::Buffer;
@@ -48,16 +50,32 @@ fn bad_line(alloc: Global, line: u32) -> Result<Answer, NoMemory>
     })
 }
 
+/// The answer to a document with these items: its diagnostics, or else its report.
+#[tactic(auto, unfolding(crate::specs::Rules::diagnostics))]
+fn answer_to_items(alloc: Global, items: &[Item]) -> Result<Answer, NoMemory>
+    ensures exact { IfOk result (λ a. AnswersItems items.now a.status a.text.items) }
+{
+    let broken = violations(alloc, items)?;
+    if broken.is_empty() {
+        Ok(Answer {
+            status: Status::Ran,
+            text: report(alloc, items)?,
+        })
+    } else {
+        Ok(Answer {
+            status: Status::Refused,
+            text: lines(alloc, broken.as_slice())?,
+        })
+    }
+}
+
 /// The answer to a document of these bytes.
 fn answer_to(alloc: Global, bytes: &[u8]) -> Result<Answer, NoMemory>
     requires { length bytes.now ≤ document_limit }
     ensures exact { IfOk result (λ a. IsOutput [] bytes.now a.status a.text.items) }
 {
     match read_doc(alloc, bytes) {
-        Ok(doc) => Ok(Answer {
-            status: Status::Ran,
-            text: report(alloc, doc.items.as_slice())?,
-        }),
+        Ok(doc) => answer_to_items(alloc, doc.items.as_slice()),
         Err(ReadDocFault::BadLine { line }) => bad_line(alloc, line),
         Err(ReadDocFault::NoMemory) => Err(NoMemory),
     }
@@ -84,7 +102,7 @@ fn answer_source<S: Source>(alloc: Global, source: &mut S) -> Result<Answer, Sta
     }
 }
 
-/// Reads a document from the source, answers its asks and writes the replies to the sink. The words are those of the
+/// Reads a document from the source, and writes its diagnostics or the replies to its asks to the sink. The words are those of the
 /// command line without the program's name: there are none. It reads and writes in the order of the statuses: words,
 /// then the source to its end, then the sink. The gates, at least 64, are told nothing, since one thread does all work.
 pub fn run_top<S: Source, K: Sink, G: Gate + Send>(
@@ -103,13 +121,14 @@ pub fn run_top<S: Source, K: Sink, G: Gate + Send>(
     ensures bad_words { (result ≡ Status.BadWords) ↔ (map string_bytes words.now ≢ []) }
     ensures untouched { result ≡ Status.BadWords → (source.new ≡ source.old) × (sink.new ≡ sink.old) }
     ensures bad_line { BadLineExactly (map string_bytes words.now) (S.left source.old) (K.written sink.old) (K.written sink.new) result }
+    ensures refused { RefusedExactly (map string_bytes words.now) (S.left source.old) (K.written sink.old) (K.written sink.new) result }
     ensures too_long { TooLongExactly (map string_bytes words.now) (S.left source.old) (S.left source.new) (K.written sink.old) (K.written sink.new) result }
     ensures read_fault { result ≡ Status.ReadFault → Rose (S.faults source.old) (S.faults source.new) × Appends (K.written sink.old) (K.written sink.new) [] }
     ensures write_fault { result ≡ Status.WriteFault → Rose (K.faults sink.old) (K.faults sink.new) }
     ensures complete { IsComplete (map string_bytes words.now) (S.left source.old) (S.faults source.old) (S.faults source.new) (K.faults sink.old) (K.faults sink.new) result }
 
     // What was read, and what the gates heard.
-    ensures at_end { (result ≡ Status.Ran) ⊎ (result ≡ Status.BadLine) → IsAtEnd (S.left source.new) }
+    ensures at_end { (result ≡ Status.Ran) ⊎ (result ≡ Status.Refused) ⊎ (result ≡ Status.BadLine) → IsAtEnd (S.left source.new) }
     ensures bound { TakesAtMost (document_limit + 1) (S.left source.old) (S.left source.new) }
     ensures faults { (S.faults source.old ≤ S.faults source.new) × (K.faults sink.old ≤ K.faults sink.new) }
     ensures read_kept { result ≢ Status.ReadFault → S.faults source.new ≡ S.faults source.old }

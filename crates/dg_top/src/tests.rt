@@ -248,6 +248,104 @@ fn fields_are_texts_and_integers(rt: HostRuntime) -> Result<(), Fail> {
 }
 
 #[test]
+fn an_entry_that_nothing_binds_is_named_with_its_key(rt: HostRuntime) -> Result<(), Fail> {
+    let text = b"\
+class Db(url: Text)
+module M {
+  provides db() : Db = new Db(\"u\")
+}
+component App modules M {
+  entry db : Text
+}
+open a : App
+ask a.db
+";
+    let (status, sink) = run(rt.alloc(), &[], text, calm(4096))?;
+    assert_eq!(rt; status, Status::Refused);
+    assert_eq!(rt;
+        sink.bytes(),
+        b"[Dagger/MissingBinding] App/App.db: Text\n".as_slice()
+    );
+    Ok(())
+}
+
+#[test]
+fn an_entry_that_two_lines_bind_is_named_with_both(rt: HostRuntime) -> Result<(), Fail> {
+    let text = b"\
+class Db(url: Text)
+module M {
+  provides db() : Db = new Db(\"u\")
+  provides db2() : Db = new Db(\"v\")
+}
+component App modules M {
+  entry db : Db
+}
+open a : App
+ask a.db
+";
+    let (status, sink) = run(rt.alloc(), &[], text, calm(4096))?;
+    assert_eq!(rt; status, Status::Refused);
+    assert_eq!(rt;
+        sink.bytes(),
+        b"[Dagger/DuplicateBindings] App/App.db: Db by App/M.db, App/M.db2\n".as_slice()
+    );
+    Ok(())
+}
+
+#[test]
+fn each_broken_entry_has_a_line_in_the_order_of_the_entries(rt: HostRuntime) -> Result<(), Fail> {
+    let text = b"\
+class Db(url: Text)
+class Clock()
+module M {
+  provides a() : Db = new Db(\"u\")
+  provides t() : Text = \"t\"
+  provides b() : Db = new Db(\"v\")
+  provides c() : Db = new Db(\"w\")
+}
+component App modules M {
+  entry db : Db
+  entry text : Text
+  entry clock : Clock
+}
+open i : App
+ask i.text
+";
+    let (status, sink) = run(rt.alloc(), &[], text, calm(4096))?;
+    assert_eq!(rt; status, Status::Refused);
+    assert_eq!(rt;
+        sink.bytes(),
+        b"\
+[Dagger/DuplicateBindings] App/App.db: Db by App/M.a, App/M.b, App/M.c
+[Dagger/MissingBinding] App/App.clock: Clock
+"
+            .as_slice()
+    );
+    Ok(())
+}
+
+#[test]
+fn a_bad_line_is_named_before_what_the_entries_break(rt: HostRuntime) -> Result<(), Fail> {
+    let text = b"\
+component App {
+  entry t : Text
+}
+x
+";
+    let (status, sink) = run(rt.alloc(), &[], text, calm(4096))?;
+    assert_eq!(rt; status, Status::BadLine);
+    assert_eq!(rt; sink.bytes(), b"bad line 4\n".as_slice());
+
+    let (status, sink) = run(rt.alloc(), &[], &text[..text.len() - 2], calm(4096))?;
+    assert_eq!(rt; status, Status::Refused);
+    assert_eq!(rt;
+        sink.bytes(),
+        b"[Dagger/MissingBinding] App/App.t: Text\n".as_slice()
+    );
+    Ok(())
+}
+
+#[test]
 fn each_status_has_its_code(rt: HostRuntime) {
     let all = [
         Status::Ran,

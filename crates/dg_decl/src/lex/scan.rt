@@ -14,7 +14,7 @@ pub fn tokens(alloc: Global, line: &[u8]) -> Result<Vec<Token>, LexFault>
     requires { length line.now ≤ 4096 }
     ensures exact { IfOk result (λ ts. spec.tokens_of line.now ≡ Ok ts.items) }
     // Bad comes exactly where no token begins at that place and all before it are tokens and spaces, and NoMemory only
-    // where a token begins.
+    // where the line isn't blank.
     ensures cause { HasNoTokens (spec.tokens_of line.now) result }
 {
     let mut found = Vec::new(alloc);

@@ -10,7 +10,7 @@ ghost use Rattle.dg_decl.specs.Bytes as bytes;
 ghost use Rattle.dg_decl.specs.Conditions as conditions;
 ghost use Rattle.dg_decl.specs.Lookup as lookup;
 
-use crate::lookup::{class_of, count_bindings, entry_of, params_of};
+use crate::lookup::{class_of, entry_of, params_of};
 use dg_decl::{Expr, Item, Param};
 use dg_types::{Name, Shape, TypeUse};
 
@@ -271,22 +271,9 @@ fn has_entry(inst: &Name, entry: &Name, earlier: &[Item]) -> bool
     }
 }
 
-/// Whether exactly one `provides` line of the modules of the component with this header gives this type.
-fn is_bound_once(header: Option<&Item>, wanted: &TypeUse, earlier: &[Item]) -> bool
-    ensures exact { result ≡ conditions.is_bound_once (option_copied header.entry) wanted.now earlier.now }
-{
-    match header {
-        Some(Item::Component { modules, .. }) => {
-            count_bindings(modules.as_slice(), wanted, earlier) == 1
-        }
-        _ => count_bindings(&[], wanted, earlier) == 1,
-    }
-}
-
-/// Whether an item meets its conditions, where the open block has this header and these members.
-pub fn is_admitted(item: &Item, header: Option<&Item>, members: &[Item], earlier: &[Item]) -> bool
-    requires header { option_copied header ≡ blocks.open_block earlier.now }
-    requires members { members.now ≡ blocks.in_open_block earlier.now }
+/// Whether an item meets its conditions, where the open block has these members.
+pub fn is_admitted(item: &Item, members: &[Item], earlier: &[Item]) -> bool
+    requires { members.now ≡ blocks.in_open_block earlier.now }
     ensures exact { result ≡ conditions.is_admitted item.now earlier.now }
 {
     match item {
@@ -311,7 +298,6 @@ pub fn is_admitted(item: &Item, header: Option<&Item>, members: &[Item], earlier
             is_new(name.as_slice(), earlier)
                 && !declares_member(name.as_slice(), members)
                 && is_known(&result.shape, earlier)
-                && is_bound_once(header, result, earlier)
         }
         Item::End => true,
         Item::OpenLine { name, class } => {

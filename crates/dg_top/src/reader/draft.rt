@@ -79,7 +79,7 @@ impl Draft {
     {
         let header = self.open_block();
         let members = &self.items[self.block_start..];
-        may_stand(header, item) && is_admitted(item, header, members, self.items.as_slice())
+        may_stand(header, item) && is_admitted(item, members, self.items.as_slice())
     }
 
     /// Adds an item at the end. After an `Err` the draft is as it was before.

@@ -1,10 +1,12 @@
 use Rattle.std.proofs.lemmas.Result.{IfOk-weaker}
-use Rattle.dg_top.proofs.RunLemmas.{answer_ran, answer_bad}
+use Rattle.dg_top.proofs.RunLemmas.{answer_read, answer_bad}
 use Rattle.dg_top.proofs.run.answer_to.Goals as goal
 
-pub returns-in_ok-report-in-Ok : goal.returns-in_ok-report-in-Ok
-returns-in_ok-report-in-Ok c =
-    record { exact = answer_ran c.args.bytes.now c.in-Ok.doc c.as_slice.result.now c.in_ok-report-in-Ok.field-0.items c.requires c.in-Ok.ensures.exact c.as_slice.ensures c.in_ok-report-in-Ok.ensures.exact }
+pub returns-in-Ok : goal.returns-in-Ok
+returns-in-Ok c =
+    record {
+      exact = IfOk-weaker c.answer_to_items.result _ _ (λ a h. answer_read c.args.bytes.now c.in-Ok.doc c.as_slice.result.now a.status a.text.items c.requires c.in-Ok.ensures.exact c.as_slice.ensures h) c.answer_to_items.ensures.exact;
+    }
 
 pub returns-in-Err-BadLine : goal.returns-in-Err-BadLine
 returns-in-Err-BadLine c =

@@ -17,6 +17,11 @@ returns-in-Err-clause-bad_line g c =
     let none = run.no_words string_bytes c.args.words.now c.is_empty.result c.is_empty.ensures c.if-not-is_empty.false in
     rw none (run.bad_line_unwritten (g.S.Source.left c.args.source.now) (g.K.Sink.written c.args.sink.now) c.in-Err.status _ c.in-Err.ensures.cause)
 
+pub returns-in-Err-clause-refused : goal.returns-in-Err-clause-refused
+returns-in-Err-clause-refused g c =
+    let none = run.no_words string_bytes c.args.words.now c.is_empty.result c.is_empty.ensures c.if-not-is_empty.false in
+    rw none (run.refused_unwritten (g.S.Source.left c.args.source.now) (g.K.Sink.written c.args.sink.now) c.in-Err.status _ c.in-Err.ensures.cause)
+
 pub returns-in-Err-clause-too_long : goal.returns-in-Err-clause-too_long
 returns-in-Err-clause-too_long g c =
     let none = run.no_words string_bytes c.args.words.now c.is_empty.result c.is_empty.ensures c.if-not-is_empty.false in
@@ -41,6 +46,12 @@ returns-in-Ok-write_all-clause-bad_line g c =
     let none = run.no_words string_bytes c.args.words.now c.is_empty.result c.is_empty.ensures c.if-not-is_empty.false in
     let appended = rw c.as_slice.ensures.value at c.in-Ok-write_all.ensures.exact in
     rw none (run.bad_line_written (g.S.Source.left c.args.source.now) (g.S.Source.left c.answer_source.new.source) (g.K.Sink.written c.args.sink.now) (g.K.Sink.written c.write_all.new.sink) c.in-Ok.answer.status c.in-Ok.answer.text.items c.in-Ok.ensures.exact appended)
+
+pub returns-in-Ok-write_all-clause-refused : goal.returns-in-Ok-write_all-clause-refused
+returns-in-Ok-write_all-clause-refused g c =
+    let none = run.no_words string_bytes c.args.words.now c.is_empty.result c.is_empty.ensures c.if-not-is_empty.false in
+    let appended = rw c.as_slice.ensures.value at c.in-Ok-write_all.ensures.exact in
+    rw none (run.refused_written (g.S.Source.left c.args.source.now) (g.S.Source.left c.answer_source.new.source) (g.K.Sink.written c.args.sink.now) (g.K.Sink.written c.write_all.new.sink) c.in-Ok.answer.status c.in-Ok.answer.text.items c.in-Ok.ensures.exact appended)
 
 pub returns-in-Ok-write_all-clause-too_long : goal.returns-in-Ok-write_all-clause-too_long
 returns-in-Ok-write_all-clause-too_long g c =
@@ -76,6 +87,12 @@ returns-clause-bad_line g c =
     let none = run.no_words string_bytes c.args.words.now c.is_empty.result c.is_empty.ensures c.if-not-is_empty.false in
     let front = rw c.as_slice.ensures.value at c.in-Err-write_all.ensures.front in
     rw none (run.bad_line_front (g.S.Source.left c.args.source.now) (g.S.Source.left c.answer_source.new.source) (g.K.Sink.written c.args.sink.now) (g.K.Sink.written c.write_all.new.sink) c.in-Ok.answer.status c.in-Ok.answer.text.items front.0 c.in-Ok.ensures.exact front.1 front.2)
+
+pub returns-clause-refused : goal.returns-clause-refused
+returns-clause-refused g c =
+    let none = run.no_words string_bytes c.args.words.now c.is_empty.result c.is_empty.ensures c.if-not-is_empty.false in
+    let front = rw c.as_slice.ensures.value at c.in-Err-write_all.ensures.front in
+    rw none (run.refused_front (g.S.Source.left c.args.source.now) (g.S.Source.left c.answer_source.new.source) (g.K.Sink.written c.args.sink.now) (g.K.Sink.written c.write_all.new.sink) c.in-Ok.answer.status c.in-Ok.answer.text.items front.0 c.in-Ok.ensures.exact front.1 front.2)
 
 pub returns-clause-too_long : goal.returns-clause-too_long
 returns-clause-too_long g c =
