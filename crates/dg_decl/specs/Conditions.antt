@@ -116,7 +116,7 @@ is_known_shape shape.Text earlier = true
 is_known_shape shape.Int earlier = true
 is_known_shape (shape.Named n) earlier = is_some (params_of n earlier)
 
--- it is a text of type `Text`, or an integer of type `Int`
+-- a constant is a text and the type `Text`, or an integer and the type `Int`
 abbrev pub basic_checks : Expr-F Expr → Shape → Bool
 basic_checks (Expr-F.Text t) shape.Text = true
 basic_checks (Expr-F.Int n) shape.Int = true

@@ -105,8 +105,8 @@ value_of_text z = unescaped false (take (length z - 2) (drop 1 z))
 unfoldable pub text : Reader Bytes
 text = spelled kind.Text >>= λ z. pure (value_of_text z)
 
--- an integer by its value. What a line spells as a lexeme of this kind is an integer, so the test is for other lists of
--- lexemes alone
+-- an integer, by its value. The test says what a reader does with lexemes that are of no line: in a line a lexeme of this
+-- kind is spelled as an integer
 unfoldable pub integer : Reader ℤ
 integer = spelled kind.Integer >>= λ z. if is_integer z then pure (value_of_integer z) else nothing
 

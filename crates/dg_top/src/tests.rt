@@ -50,8 +50,8 @@ fn run(
 }
 
 /// As many lines of 4,096 bytes, their LF included, each a comment.
-fn comments(alloc: Global, lines: usize) -> Result<Vec<u8>, AllocError> {
-    let mut text = Vec::with_capacity(alloc, lines * 4096 + 1)?;
+fn comments(alloc: Global, lines: u16) -> Result<Vec<u8>, AllocError> {
+    let mut text = Vec::with_capacity(alloc, usize::from(lines) * 4096 + 1)?;
     for _ in 0..lines {
         text.extend_from_slice(b"//")?;
         text.extend_from_slice(&[b'x'; 4093])?;

@@ -153,7 +153,7 @@ fn is_known(shape: &Shape, earlier: &Draft) -> bool
     }
 }
 
-/// Whether it is a text of type `Text` or an integer of type `Int`.
+/// Whether a constant is a text and the type `Text`, or an integer and the type `Int`.
 fn basic_checks(body: &Expr, shape: &Shape) -> bool
     ensures exact { result ≡ conditions.basic_checks (out-Expr body.now) shape.now }
 {

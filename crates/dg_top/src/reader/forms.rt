@@ -77,6 +77,7 @@ fn text(alloc: Global, tokens: &mut Lexemes<'_>) -> Result<Text, FormFault>
 #[tactic(auto, unfolding(dg_decl::specs::Forms::integer))]
 fn integer(tokens: &mut Lexemes<'_>) -> Result<i64, FormFault>
     ensures exact { Gives (forms.integer tokens.old) result tokens.new }
+    ensures cause { IfErr result (λ e. e ≡ fault.NoForm) }
 {
     match value_of_integer(tokens.spelled(TokenKind::Integer)?) {
         Some(n) => Ok(n),
@@ -154,6 +155,7 @@ fn text_constant(alloc: Global, tokens: &mut Lexemes<'_>) -> Result<Expr, FormFa
 #[tactic(auto, unfolding(dg_decl::specs::Forms::integer_constant))]
 fn integer_constant(tokens: &mut Lexemes<'_>) -> Result<Expr, FormFault>
     ensures exact { Gives (forms.integer_constant tokens.old) result tokens.new }
+    ensures cause { IfErr result (λ e. e ≡ fault.NoForm) }
 {
     Ok(Expr::Int(integer(tokens)?))
 }
