@@ -37,7 +37,7 @@ fn a_type_names_its_class(rt: HostRuntime) -> Result<(), Fail> {
     };
     match &asked.shape {
         Shape::Named(name) => assert!(rt; name.is(b"Db")),
-        Shape::Text => assert!(rt; false, "a text"),
+        _ => assert!(rt; false, "not a class"),
     }
     Ok(())
 }
