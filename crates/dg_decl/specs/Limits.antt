@@ -3,7 +3,7 @@ use Rattle.std.specs.Prelude.{ℕ, Bool, true, false, not, ◌&&◌, ◌||◌, n
 use Rattle.std.specs.List.{count_by}
 use Rattle.dg_decl.specs.declared.limits.TheConstants.{DECLARATION_LIMIT, COMPONENT_LIMIT, OPEN_LIMIT, ASK_LIMIT}
 use Rattle.dg_decl.specs.declared.item.Item.{Item}
-use Rattle.dg_decl.specs.declared.item.Item.TheVariants.{Class, Module, Component, Provides, Entry, End, OpenLine, AskLine}
+use Rattle.dg_decl.specs.declared.item.Item.TheVariants.{Component, End, OpenLine, AskLine}
 
 abbrev pub is_open : Item → Bool
 is_open (OpenLine n c) = true

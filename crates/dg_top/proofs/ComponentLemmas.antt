@@ -1,8 +1,8 @@
 -- Components and their entry points, and those that items declare.
-use Rattle.std.proofs.Common.{◌≡◌, ◌⊎◌, inl, inr, fold, IsSome, ℕ, zero, suc, ◌+◌, Bool, true, false, cond, List, [], ◌∷◌, ◌++◌, map, length, Option, Some, None, is_some, if◌then◌else◌, ◌||◌, ◌&&◌, refl, sym, ap, subst, ◌∙◌, true≢false}
+use Rattle.std.proofs.Common.{◌≡◌, ◌⊎◌, inl, inr, fold, IsSome, ℕ, Bool, true, false, cond, List, [], ◌∷◌, ◌++◌, Option, Some, None, is_some, if◌then◌else◌, ◌||◌, ◌&&◌, refl, sym, ap, subst, ◌∙◌, true≢false}
 use Rattle.std.specs.Prelude.{Result, Ok, Err, OnOk, OnErr}
-use Rattle.std.specs.Map.{lookup, set_value}
-use Rattle.std.specs.Option.{option_and_then, option_map_or}
+use Rattle.std.specs.Map.{set_value}
+use Rattle.std.specs.Option.{option_and_then}
 use Rattle.std.specs.Str.{bytes_eq}
 use Rattle.std.specs.Cmp.Lexicographic.{nat_list_eq_equiv}
 use Rattle.std.proofs.lemmas.Map.{lookup-set_value}
@@ -10,7 +10,7 @@ use Rattle.std.proofs.lemmas.Slice.Eq.{bytes_eq-Decides}
 use Rattle.dg_decl.specs.declared.item.Item.{Item}
 use Rattle.dg_decl.specs.declared.item.Item.TheVariants.{Class, Module, Component, Provides, Entry, End, OpenLine, AskLine}
 use Rattle.dg_decl.specs.Bytes.{Bytes}
-use Rattle.dg_decl.specs.Blocks.{open_after, open_block, placed_from, placed, is_header_of_component}
+use Rattle.dg_decl.specs.Blocks.{open_after, open_block, placed_from, placed}
 use Rattle.dg_decl.specs.Lookup.{or_else, first, entry_in, entry_of}
 use Rattle.dg_decl.specs.Conditions.{is_this, declares, component_name}
 use Rattle.dg_top.specs.Tables.{Table, place_in, with_name}
@@ -85,12 +85,15 @@ declared_from header (x ∷ xs) k ms e = by x (declared_from (open_after header 
     or_true : (b : Bool) → (b || true) ≡ true
     or_true true = refl
     or_true false = refl
+
     later : (y : Item) → declares component_name k xs ≡ true → (is_this (component_name y) k || declares component_name k xs) ≡ true
     later y d = ap (λ (b : Bool). is_this (component_name y) k || b) d ∙ or_true (is_this (component_name y) k)
+
     here : (n : Bytes) (ns : List Bytes) → Some (Component n ns) ≡ Some (Component k ms) → (bytes_eq n k || declares component_name k xs) ≡ true
     here n ns same =
         let names : n ≡ k = cc same in
         ap (λ (b : Bool). b || declares component_name k xs) ((bytes_eq-Decides n k).1 names)
+
     by : (y : Item) → (open_after header y ≡ Some (Component k ms)) ⊎ (declares component_name k xs ≡ true) → (header ≡ Some (Component k ms)) ⊎ ((is_this (component_name y) k || declares component_name k xs) ≡ true)
     by y (inr d) = inr (later y d)
     by (Component n ns) (inl same) = inr (here n ns same)
@@ -168,6 +171,7 @@ component_entries c e n entries = by (table_of n entries) refl
     added None true = refl
     added None false = refl
     added (Some t) b = refl
+
     by : (o : Option Table) → table_of n entries ≡ o → is_some (entry_place c e (with_component n entries)) ≡ is_some (entry_place c e entries)
     by None none = ap (λ (es : Entries). is_some (entry_place c e es)) (sym (with_new_component n [] entries refl none))
         ∙ ap (λ (o : Option Table). is_some (option_and_then (place_in e) o)) (table_push c n entries) ∙ added (table_of c entries) (bytes_eq c n)
@@ -180,10 +184,12 @@ component_names c n entries = by (table_of n entries) refl
     added None true = refl
     added None false = refl
     added (Some t) b = refl
+
     same : (a b : Bool) → (b ≡ true → a ≡ true) → a ≡ (a || b)
     same true b there = refl
     same false true there = there refl
     same false false there = refl
+
     by : (o : Option Table) → table_of n entries ≡ o → is_some (table_of c (with_component n entries)) ≡ (is_some (table_of c entries) || bytes_eq n c)
     by None none = ap (λ (es : Entries). is_some (table_of c es)) (sym (with_new_component n [] entries refl none))
         ∙ ap is_some (table_push c n entries) ∙ added (table_of c entries) (bytes_eq c n) ∙ ap (λ (b : Bool). is_some (table_of c entries) || b) (bytes_eq_turned c n)

@@ -1,5 +1,5 @@
 -- Tables of names, and the names that items declare.
-use Rattle.std.proofs.Common.{◌≡◌, ℕ, zero, suc, ◌+◌, ◌≤◌, ◌<◌, Bool, true, false, cond, List, [], ◌∷◌, ◌++◌, map, length, take, Option, Some, None, is_some, if◌then◌else◌, ◌||◌, refl, sym, ap, subst, ◌∙◌, true≢false, arith}
+use Rattle.std.proofs.Common.{◌≡◌, ℕ, zero, suc, ◌+◌, Bool, true, false, cond, List, [], ◌∷◌, ◌++◌, map, length, take, Option, Some, None, is_some, if◌then◌else◌, ◌||◌, refl, sym, ap, subst, ◌∙◌, true≢false, arith}
 use Rattle.std.specs.Bool.{one_answer}
 use Rattle.std.specs.List.{list_any, position_from, slice_get}
 use Rattle.std.specs.Map.{lookup, set_value}
@@ -13,11 +13,9 @@ use Rattle.dg_decl.specs.Bytes.{Bytes}
 use Rattle.dg_decl.specs.Lookup.{or_else, first, params_in, params_of, class_in, class_of}
 use Rattle.dg_decl.specs.Conditions.{is_this, declares, outer_name, module_name, component_name, instance_name, member_name}
 use Rattle.dg_decl.specs.Blocks.{in_open_block, gathered}
-use Rattle.dg_top.specs.declared.reader.names.Names.{Names}
-use Rattle.dg_top.specs.declared.reader.counts.Counts.{Counts}
-use Rattle.dg_top.specs.Drafts.{bounds_block, counts_of, BeginsAt}
+use Rattle.dg_top.specs.Drafts.{bounds_block}
 use Rattle.dg_top.specs.Tables.{Table, place_in, with_name}
-use Rattle.dg_top.specs.Known.{class_name, place_of, fields_of, opened_class, KnowsPlaces, KnowsNames, KnowsAll, noted_in, noted, no_names, IsDraft}
+use Rattle.dg_top.specs.Known.{class_name, place_of, fields_of, opened_class, KnowsPlaces, KnowsNames, noted_in}
 use Rattle.dg_top.proofs.DraftLemmas.{gathered_push}
 
 -- ---- tables
@@ -91,6 +89,7 @@ place_in-with_name n name place table = by (place_in name table) refl
     same None k true there = cc (there refl)
     same None k false there = refl
     same (Some j) k b there = refl
+
     by : (o : Option ℕ) → place_in name table ≡ o → place_in n (with_name name place table) ≡ or_else (place_in n table) (at (bytes_eq n name) place)
     by None none = ap (place_in n) (with_new name place table none) ∙ place_in-push n name place table
     by (Some k) some = ap (place_in n) (with_old name place table true (sym (ap is_some some)) refl)
@@ -177,15 +176,18 @@ outer_is n (x ∷ xs) = by x (declares class_name n xs) (declares module_name n 
     second true false c m = refl
     second false true c m = refl
     second false false c m = refl
+
     third : (a b c m : Bool) → (b || (a || m || c)) ≡ (a || m || (b || c))
     third true true c m = refl
     third true false c m = refl
     third false true c true = refl
     third false true c false = refl
     third false false c m = refl
+
     first_is : (a b c m : Bool) → (b || (a || m || c)) ≡ ((b || a) || m || c)
     first_is a true c m = refl
     first_is a false c m = refl
+
     by : (y : Item) (a m c : Bool) → declares outer_name n xs ≡ (a || m || c)
         → (is_this (outer_name y) n || declares outer_name n xs) ≡ ((is_this (class_name y) n || a) || (is_this (module_name y) n || m) || (is_this (component_name y) n || c))
     by (Class k ps) a m c rest = ap (λ (b : Bool). bytes_eq k n || b) rest ∙ first_is a (bytes_eq k n) c m
@@ -252,6 +254,7 @@ params_at table items class knows = found_first (params_in class) (λ item. is_t
     is End = refl
     is (OpenLine n c) = refl
     is (AskLine i e) = refl
+
     some : (x : Item) → is_this (class_name x) class ≡ true → is_some (fields_of x) ≡ true
     some (Class n ps) e = refl
     some (Module n) e = cc e
@@ -274,6 +277,7 @@ class_at table items inst knows = found_first (class_in inst) (λ item. is_this 
     is End = refl
     is (OpenLine n c) = refl
     is (AskLine i e) = refl
+
     some : (x : Item) → is_this (instance_name x) inst ≡ true → is_some (opened_class x) ≡ true
     some (Class n ps) e = cc e
     some (Module n) e = cc e

@@ -2,7 +2,7 @@
 use Rattle.std.specs.Prelude.{◌≡◌, ℕ, Bool, true, false, zero, suc, ◌≤◌, ◌<◌, ◌^◌, List, length, drop, slice_get, Option, Some, None}
 use Rattle.std.specs.List.{count_by}
 use Rattle.dg_decl.specs.declared.item.Item.{Item}
-use Rattle.dg_decl.specs.declared.item.Item.TheVariants.{Class, Module, Component, Provides, Entry, End, OpenLine, AskLine}
+use Rattle.dg_decl.specs.declared.item.Item.TheVariants.{Module, Component, End}
 use Rattle.dg_decl.specs.Blocks.{open_block, in_open_block}
 use Rattle.dg_decl.specs.Limits.{is_declaration, is_component, is_open, is_ask}
 use Rattle.dg_top.specs.declared.reader.counts.Counts.{Counts}

@@ -1,6 +1,6 @@
 use Rattle.std.proofs.Common.{ap, ◌∙◌}
 use Rattle.std.specs.Prelude.{is_some}
-use Rattle.dg_top.specs.Components.{Entries, table_of}
+use Rattle.dg_top.specs.Components.{table_of}
 use Rattle.dg_top.proofs.TableLemmas.{lookup-seen}
 use Rattle.dg_top.proofs.reader.components.Components.has.Goals as goal
 

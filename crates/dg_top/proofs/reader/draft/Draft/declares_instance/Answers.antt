@@ -1,7 +1,6 @@
 use Rattle.std.proofs.Common.{ap, ◌∙◌}
 use Rattle.std.specs.Prelude.{is_some}
 use Rattle.dg_decl.specs.Conditions.{declares, instance_name}
-use Rattle.dg_top.specs.Known.{class_name}
 use Rattle.dg_top.proofs.TableLemmas.{has_place}
 use Rattle.dg_top.proofs.reader.draft.Draft.declares_instance.Goals as goal
 

@@ -1,7 +1,7 @@
-use Rattle.std.proofs.Common.{◌≡◌, ◌++◌, ◌∷◌, [], None, is_some, sym, ap, ◌∙◌}
+use Rattle.std.proofs.Common.{◌++◌, ◌∷◌, [], is_some, sym, ap, ◌∙◌}
 use Rattle.indexmap.proofs.CallerLemmas.{insert_entry-new}
 use Rattle.dg_decl.specs.Bytes.{Bytes}
-use Rattle.dg_top.specs.Tables.{Table, place_in, with_name}
+use Rattle.dg_top.specs.Tables.{Table, place_in}
 use Rattle.dg_top.proofs.TableLemmas.{seen, seen-push, lookup-seen, no_place, with_new, with_old}
 use Rattle.dg_top.proofs.reader.table.NameTable.add.Goals as goal
 

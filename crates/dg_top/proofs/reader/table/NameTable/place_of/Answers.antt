@@ -1,4 +1,4 @@
-use Rattle.std.proofs.Common.{sym, ap, ◌∙◌}
+use Rattle.std.proofs.Common.{ap, ◌∙◌}
 use Rattle.dg_top.specs.Tables.{place_in}
 use Rattle.dg_top.proofs.TableLemmas.{lookup-seen}
 use Rattle.dg_top.proofs.reader.table.NameTable.place_of.Goals as goal
