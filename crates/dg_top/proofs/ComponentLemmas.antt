@@ -85,12 +85,15 @@ declared_from header (x ∷ xs) k ms e = by x (declared_from (open_after header 
     or_true : (b : Bool) → (b || true) ≡ true
     or_true true = refl
     or_true false = refl
+
     later : (y : Item) → declares component_name k xs ≡ true → (is_this (component_name y) k || declares component_name k xs) ≡ true
     later y d = ap (λ (b : Bool). is_this (component_name y) k || b) d ∙ or_true (is_this (component_name y) k)
+
     here : (n : Bytes) (ns : List Bytes) → Some (Component n ns) ≡ Some (Component k ms) → (bytes_eq n k || declares component_name k xs) ≡ true
     here n ns same =
         let names : n ≡ k = cc same in
         ap (λ (b : Bool). b || declares component_name k xs) ((bytes_eq-Decides n k).1 names)
+
     by : (y : Item) → (open_after header y ≡ Some (Component k ms)) ⊎ (declares component_name k xs ≡ true) → (header ≡ Some (Component k ms)) ⊎ ((is_this (component_name y) k || declares component_name k xs) ≡ true)
     by y (inr d) = inr (later y d)
     by (Component n ns) (inl same) = inr (here n ns same)
@@ -168,6 +171,7 @@ component_entries c e n entries = by (table_of n entries) refl
     added None true = refl
     added None false = refl
     added (Some t) b = refl
+
     by : (o : Option Table) → table_of n entries ≡ o → is_some (entry_place c e (with_component n entries)) ≡ is_some (entry_place c e entries)
     by None none = ap (λ (es : Entries). is_some (entry_place c e es)) (sym (with_new_component n [] entries refl none))
         ∙ ap (λ (o : Option Table). is_some (option_and_then (place_in e) o)) (table_push c n entries) ∙ added (table_of c entries) (bytes_eq c n)
@@ -180,10 +184,12 @@ component_names c n entries = by (table_of n entries) refl
     added None true = refl
     added None false = refl
     added (Some t) b = refl
+
     same : (a b : Bool) → (b ≡ true → a ≡ true) → a ≡ (a || b)
     same true b there = refl
     same false true there = there refl
     same false false there = refl
+
     by : (o : Option Table) → table_of n entries ≡ o → is_some (table_of c (with_component n entries)) ≡ (is_some (table_of c entries) || bytes_eq n c)
     by None none = ap (λ (es : Entries). is_some (table_of c es)) (sym (with_new_component n [] entries refl none))
         ∙ ap is_some (table_push c n entries) ∙ added (table_of c entries) (bytes_eq c n) ∙ ap (λ (b : Bool). is_some (table_of c entries) || b) (bytes_eq_turned c n)

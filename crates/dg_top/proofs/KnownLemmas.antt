@@ -26,7 +26,6 @@ knows_none = record {
   members = record { has = λ n. refl };
 }
 
-
 abbrev is_entry : Item → Bool
 is_entry (Entry n t) = true
 is_entry item = false
@@ -76,6 +75,7 @@ entry_noted entries items n t place knows = by (open_block items) refl
   where
     outside : (h : Option Item) → open_block items ≡ h → ((c e : Bytes) → is_some (entry_in c e (h, Entry n t)) ≡ false) → KnowsEntries entries (items ++ Entry n t ∷ [])
     outside h is none = unnoted entries items (Entry n t) knows (λ c. refl) (λ c e. ap (λ (g : Option Item). is_some (entry_in c e (g, Entry n t))) is ∙ none c e)
+
     inside : (k : Bytes) (ms : List Bytes) (table : Table) → open_block items ≡ Some (Component k ms) → table_of k entries ≡ Some table → KnowsEntries (with_entry k n place entries) (items ++ Entry n t ∷ [])
     inside k ms table is some = record {
       has = λ c. name_after c k n place entries table some ∙ knows.has c ∙ or_false (declares component_name c items) ∙ sym (declares_push component_name c items (Entry n t));
@@ -83,6 +83,7 @@ entry_noted entries items n t place knows = by (open_block items) refl
           ∙ ap (λ (b : Bool). is_some (entry_of c e items) || b) (sym (ap (λ (h : Option Item). is_some (entry_in c e (h, Entry n t))) is ∙ entry_here c e k n ms t))
           ∙ sym (entry_push c e items (Entry n t));
     }
+
     by : (h : Option Item) → open_block items ≡ h → KnowsEntries (noted_entry h n place entries) (items ++ Entry n t ∷ [])
     by (Some (Component k ms)) is = (let found = some_table k entries (knows.has k ∙ open_is_declared items k ms is) in inside k ms found.0 is found.1)
     by None is = outside None is (λ c e. refl)

@@ -89,6 +89,7 @@ place_in-with_name n name place table = by (place_in name table) refl
     same None k true there = cc (there refl)
     same None k false there = refl
     same (Some j) k b there = refl
+
     by : (o : Option ℕ) → place_in name table ≡ o → place_in n (with_name name place table) ≡ or_else (place_in n table) (at (bytes_eq n name) place)
     by None none = ap (place_in n) (with_new name place table none) ∙ place_in-push n name place table
     by (Some k) some = ap (place_in n) (with_old name place table true (sym (ap is_some some)) refl)
@@ -175,15 +176,18 @@ outer_is n (x ∷ xs) = by x (declares class_name n xs) (declares module_name n 
     second true false c m = refl
     second false true c m = refl
     second false false c m = refl
+
     third : (a b c m : Bool) → (b || (a || m || c)) ≡ (a || m || (b || c))
     third true true c m = refl
     third true false c m = refl
     third false true c true = refl
     third false true c false = refl
     third false false c m = refl
+
     first_is : (a b c m : Bool) → (b || (a || m || c)) ≡ ((b || a) || m || c)
     first_is a true c m = refl
     first_is a false c m = refl
+
     by : (y : Item) (a m c : Bool) → declares outer_name n xs ≡ (a || m || c)
         → (is_this (outer_name y) n || declares outer_name n xs) ≡ ((is_this (class_name y) n || a) || (is_this (module_name y) n || m) || (is_this (component_name y) n || c))
     by (Class k ps) a m c rest = ap (λ (b : Bool). bytes_eq k n || b) rest ∙ first_is a (bytes_eq k n) c m
@@ -250,6 +254,7 @@ params_at table items class knows = found_first (params_in class) (λ item. is_t
     is End = refl
     is (OpenLine n c) = refl
     is (AskLine i e) = refl
+
     some : (x : Item) → is_this (class_name x) class ≡ true → is_some (fields_of x) ≡ true
     some (Class n ps) e = refl
     some (Module n) e = cc e
@@ -272,6 +277,7 @@ class_at table items inst knows = found_first (class_in inst) (λ item. is_this 
     is End = refl
     is (OpenLine n c) = refl
     is (AskLine i e) = refl
+
     some : (x : Item) → is_this (instance_name x) inst ≡ true → is_some (opened_class x) ≡ true
     some (Class n ps) e = cc e
     some (Module n) e = cc e

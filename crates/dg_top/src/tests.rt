@@ -389,7 +389,10 @@ fn a_document_has_as_many_lines_of_a_kind_as_their_limit(rt: HostRuntime) -> Res
 #[test]
 fn a_line_past_a_limit_is_bad(rt: HostRuntime) -> Result<(), Fail> {
     let cases = [
-        (declarations(rt.alloc(), 8193)?, b"bad line 8193\n".as_slice()),
+        (
+            declarations(rt.alloc(), 8193)?,
+            b"bad line 8193\n".as_slice(),
+        ),
         (opens(rt.alloc(), 257)?, b"bad line 259\n"),
         (asks(rt.alloc(), 20001)?, b"bad line 20009\n"),
     ];

@@ -37,12 +37,7 @@ impl Names {
 
     /// Notes the names that an item declares, with the item's place, where the open block has this header. After an
     /// `Err` the tables are as they were before.
-    pub fn note(
-        &mut self,
-        header: Option<&Item>,
-        item: &Item,
-        place: usize,
-    ) -> Result<(), NoMemory>
+    pub fn note(&mut self, header: Option<&Item>, item: &Item, place: usize) -> Result<(), NoMemory>
         ensures exact { OnOk result (self.new ≡ known.noted (option_copied header.entry) item.now place self.old) }
         ensures lent { OnErr result (self.new ≡ self.old) }
     {
@@ -82,7 +77,11 @@ impl Names {
         let count = self.members.len();
         self.members.add(entry, place)?;
         if let Some(Item::Component { name, .. }) = header {
-            if self.components.add_entry(name.as_slice(), entry, place).is_err() {
+            if self
+                .components
+                .add_entry(name.as_slice(), entry, place)
+                .is_err()
+            {
                 self.members.truncate(count);
                 return Err(NoMemory);
             }

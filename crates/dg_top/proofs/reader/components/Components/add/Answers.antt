@@ -15,10 +15,10 @@ returns-in_ok-insert-clause-exact c =
     let none = is_none (table_of c.args.class.now c.args.self.now) c.contains_key.result (c.contains_key.ensures ∙ ap is_some same) c.if-not-contains_key.true in
     let absent = lookup-seen (λ k. k.items) key.items entries ∙ ap (table_of key.items) c.self.view_is ∙ ap (λ (n : Bytes). table_of n c.args.self.now) c.in_ok-class.ensures.items ∙ none in
     let added = ap (seen (λ k. k.items)) (c.in_ok-insert.ensures.entries ∙ insert_entry-new _ c.self.inside.tables key c.new.result absent)
-        ∙ seen-push (λ k. k.items) entries (key, c.new.result)
-        ∙ ap (λ (t : Entries). t ++ (key.items, c.new.result) ∷ []) c.self.view_is
-        ∙ ap (λ (n : Bytes). c.args.self.now ++ (n, c.new.result) ∷ []) c.in_ok-class.ensures.items
-        ∙ with_new_component c.args.class.now c.new.result c.args.self.now c.new.ensures.exact none in
+    ∙ seen-push (λ k. k.items) entries (key, c.new.result)
+    ∙ ap (λ (t : Entries). t ++ (key.items, c.new.result) ∷ []) c.self.view_is
+    ∙ ap (λ (n : Bytes). c.args.self.now ++ (n, c.new.result) ∷ []) c.in_ok-class.ensures.items
+    ∙ with_new_component c.args.class.now c.new.result c.args.self.now c.new.ensures.exact none in
     elim c.match-branch-3.branch [ in-Some-1 w ↦ w.self-is ∙ added | in-None-1 w ↦ w.self-is ∙ added ]
 
 pub returns-else-not-contains_key-clause-exact : goal.returns-else-not-contains_key-clause-exact

@@ -16,9 +16,9 @@ returns-clause-exact c =
       | in-Some w ↦ (
           let new = w.add.new.self in
           on_ok c.match-get_mut.result w.add.result w.result-is w.add.ensures.exact (λ added.
-              ap (λ i. seen (λ k. k.items) i.tables.entries) w.self-inside-is ∙ ap (seen (λ k. k.items)) (c.get_mut.follows.holds new).0
-              ∙ seen-set_value (λ k. k.items) class entries new ∙ ap (λ (es : Entries). set_value (bytes_eq class) es new) c.self.view_is
-              ∙ entry_added class c.args.entry.now c.args.place c.args.self.now w.in-Some.table.now new (w.in-Some.ensures.value ∙ same) added))
+          ap (λ i. seen (λ k. k.items) i.tables.entries) w.self-inside-is ∙ ap (seen (λ k. k.items)) (c.get_mut.follows.holds new).0
+          ∙ seen-set_value (λ k. k.items) class entries new ∙ ap (λ (es : Entries). set_value (bytes_eq class) es new) c.self.view_is
+          ∙ entry_added class c.args.entry.now c.args.place c.args.self.now w.in-Some.table.now new (w.in-Some.ensures.value ∙ same) added))
       | in-None w ↦ was_ok _ c.match-get_mut.result tt w.result-is
           (ap (λ i. seen (λ k. k.items) i.tables.entries) w.self-inside-is ∙ ap (λ m. seen (λ k. k.items) m.entries) c.get_mut.follows.holds-at-none ∙ c.self.view_is
           ∙ no_entry class c.args.entry.now c.args.place c.args.self.now (w.in-None.ensures.value ∙ same))
@@ -33,8 +33,8 @@ returns-clause-lent c =
       | in-Some w ↦ (
           let new = w.add.new.self in
           on_err c.match-get_mut.result w.add.result w.result-is w.add.ensures.lent (λ kept.
-              ap (λ i. seen (λ k. k.items) i.tables.entries) w.self-inside-is ∙ ap (seen (λ k. k.items)) (c.get_mut.follows.holds new).0
-              ∙ seen-set_value (λ k. k.items) class entries new ∙ ap (λ (es : Entries). set_value (bytes_eq class) es new) c.self.view_is
-              ∙ entry_kept class c.args.self.now w.in-Some.table.now new (w.in-Some.ensures.value ∙ same) kept))
+          ap (λ i. seen (λ k. k.items) i.tables.entries) w.self-inside-is ∙ ap (seen (λ k. k.items)) (c.get_mut.follows.holds new).0
+          ∙ seen-set_value (λ k. k.items) class entries new ∙ ap (λ (es : Entries). set_value (bytes_eq class) es new) c.self.view_is
+          ∙ entry_kept class c.args.self.now w.in-Some.table.now new (w.in-Some.ensures.value ∙ same) kept))
       | in-None w ↦ no_err _ c.match-get_mut.result tt w.result-is
     ]

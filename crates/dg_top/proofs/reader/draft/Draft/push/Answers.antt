@@ -13,7 +13,7 @@ invariant_of-self-then-bounds_block c =
     let n : c.len-self-inside.result ≡ suc (length items) = grind (arith, common_steps) in
     let place : c.len.result ≡ length items = grind (arith, common_steps) in
     let known = c.in_ok-note.ensures.exact ∙ ap (λ (h : Option Item). noted h c.args.item c.len.result c.self.inside.names)
-        (c.header_before-header.ensures.exact ∙ ap (header_before c.self.inside.block_start) (c.as_slice.ensures.value ∙ c.reserve.ensures.items) ∙ c.self.invariant.begins.header) in
+    (c.header_before-header.ensures.exact ∙ ap (header_before c.self.inside.block_start) (c.as_slice.ensures.value ∙ c.reserve.ensures.items) ∙ c.self.invariant.begins.header) in
     is_draft items c.push.new.self.items c.args.item c.len-self-inside.result c.len.result c.with-counts.result c.self.inside.names c.note.new.self
     (c.in_ok-push.ensures.items ∙ ap (λ (xs : List Item). xs ++ c.args.item ∷ []) c.reserve.ensures.items)
     (subst (λ (k : ℕ). BeginsAt (items ++ c.args.item ∷ []) k) (sym n) (begins_behind items c.args.item (sym c.if-bounds_block.ensures.exact)))
@@ -24,7 +24,7 @@ invariant_of-self-else-bounds_block c =
     let items = c.self.inside.items.items in
     let place : c.len.result ≡ length items = grind (arith, common_steps) in
     let known = c.in_ok-note.ensures.exact ∙ ap (λ (h : Option Item). noted h c.args.item c.len.result c.self.inside.names)
-        (c.header_before-header.ensures.exact ∙ ap (header_before c.self.inside.block_start) (c.as_slice.ensures.value ∙ c.reserve.ensures.items) ∙ c.self.invariant.begins.header) in
+    (c.header_before-header.ensures.exact ∙ ap (header_before c.self.inside.block_start) (c.as_slice.ensures.value ∙ c.reserve.ensures.items) ∙ c.self.invariant.begins.header) in
     is_draft items c.push.new.self.items c.args.item c.self.inside.block_start c.len.result c.with-counts.result c.self.inside.names c.note.new.self
     (c.in_ok-push.ensures.items ∙ ap (λ (xs : List Item). xs ++ c.args.item ∷ []) c.reserve.ensures.items)
     (begins_before items c.args.item c.self.inside.block_start (sym c.if-bounds_block.ensures.exact) c.self.invariant.begins)
