@@ -242,8 +242,7 @@ pub fn is_admitted(item: &Item, earlier: &Draft) -> bool
                 && checks(body, result, earlier)
         }
         Item::Entry { name, result } => {
-            is_new_member(name.as_slice(), earlier)
-                && is_known(&result.shape, earlier)
+            is_new_member(name.as_slice(), earlier) && is_known(&result.shape, earlier)
         }
         Item::End => true,
         Item::OpenLine { name, class } => {
