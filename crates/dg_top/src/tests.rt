@@ -51,7 +51,7 @@ fn run(
 
 /// As many lines of 4,096 bytes, their LF included, each a comment.
 fn comments(alloc: Global, lines: usize) -> Result<Vec<u8>, AllocError> {
-    let mut text = Vec::with_capacity(alloc, lines * 4096 + 1)?;
+    let mut text = Vec::new(alloc);
     for _ in 0..lines {
         text.extend_from_slice(b"//")?;
         text.extend_from_slice(&[b'x'; 4093])?;
