@@ -6,7 +6,7 @@ pub const NAME_LIMIT: usize = 64;
 /// The most bytes of a line, without the LF that ends it.
 pub const LINE_LIMIT: usize = 4096;
 
-/// The most members of a list: parameters of a class, and texts behind `new`.
+/// The most members of a list: parameters of a class, and arguments of `new`.
 pub const LIST_LIMIT: usize = 32;
 
 /// The most declarations: lines of all items but `}`, `open` and `ask`.

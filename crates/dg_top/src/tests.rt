@@ -404,6 +404,53 @@ fn a_line_past_a_limit_is_bad(rt: HostRuntime) -> Result<(), Fail> {
     Ok(())
 }
 
+/// A line of so many spaces.
+fn spaces(alloc: Global, count: u16) -> Result<Vec<u8>, AllocError> {
+    let mut text = Vec::new(alloc);
+    for _ in 0..count {
+        text.push(b' ')?;
+    }
+    text.push(b'\n')?;
+    Ok(text)
+}
+
+/// A class whose name has so many bytes.
+fn named(alloc: Global, count: u16) -> Result<Vec<u8>, AllocError> {
+    let mut text = b"class ".as_slice().to_vec(alloc)?;
+    for _ in 0..count {
+        text.push(b'C')?;
+    }
+    text.extend_from_slice(b"()\n")?;
+    Ok(text)
+}
+
+/// A class with so many parameters, and one at least.
+fn class_of_many(alloc: Global, count: u16) -> Result<Vec<u8>, AllocError> {
+    let mut text = b"class C(f0: Int".as_slice().to_vec(alloc)?;
+    for number in 1..count {
+        text.extend_from_slice(format!(in alloc; ", f{number}: Int")?.as_bytes())?;
+    }
+    text.extend_from_slice(b")\n")?;
+    Ok(text)
+}
+
+#[test]
+fn lines_names_and_lists_have_their_limits(rt: HostRuntime) -> Result<(), Fail> {
+    let cases = [
+        (spaces(rt.alloc(), 4096)?, Status::Ran),
+        (spaces(rt.alloc(), 4097)?, Status::BadLine),
+        (named(rt.alloc(), 64)?, Status::Ran),
+        (named(rt.alloc(), 65)?, Status::BadLine),
+        (class_of_many(rt.alloc(), 32)?, Status::Ran),
+        (class_of_many(rt.alloc(), 33)?, Status::BadLine),
+    ];
+    for (text, ends) in &cases {
+        let (status, _) = run(rt.alloc(), &[], text.as_slice(), calm(4096))?;
+        assert_eq!(rt; status, *ends);
+    }
+    Ok(())
+}
+
 #[test]
 fn each_status_has_its_code(rt: HostRuntime) {
     let all = [
