@@ -1,4 +1,4 @@
--- Tokens of a line: from the left, each the longest that begins at its place.
+-- The tokens of a line, from its first byte on. Where one token is the front of another, the longer one is taken.
 use Rattle.std.specs.Prelude.{ℕ, zero, suc, ◌+◌, ◌-◌, ◌*◌, ◌^◌, Bool, true, false, not, ◌&&◌, ◌||◌, if◌then◌else◌, ◌==◌, nat_lt, nat_le, List, [], ◌∷◌, length, take, drop, fold, slice_index, Option, Some, None, Result, Ok, Err, codes, ℤ, pos, neg_ℤ}
 use Rattle.std.specs.Char.{is_ascii_alphabetic, is_ascii_digit}
 use Rattle.std.specs.List.{prefix_len, list_all, list_any}
@@ -14,7 +14,7 @@ use Rattle.dg_decl.specs.declared.lex.token.TokenKind.TheVariants.{Name, Word, A
 abbrev pub reserved : List Bytes
 reserved = codes "new" ∷ codes "if" ∷ codes "then" ∷ codes "else" ∷ codes "await" ∷ []
 
--- a letter, then letters, digits and `_`, at most 64 bytes in all, and no reserved word
+-- a word that begins with a letter and has no more bytes than a name may have; reserved words are none
 unfoldable pub is_name : Bytes → Bool
 is_name z = is_ascii_alphabetic (slice_index z 0) && list_all is_word_byte z && nat_le (length z) NAME_LIMIT && not (is_among z reserved)
 
@@ -26,11 +26,11 @@ is_at_name z = slice_index z 0 == 64 && is_name (drop 1 z)
 abbrev pub value_of_digits : Bytes → ℕ
 value_of_digits z = fold (λ n b. 10 * n + (b - 48)) 0 z
 
--- digits that don't begin with 0
+-- at least one digit, and the first of them isn't 0
 unfoldable pub is_counting : Bytes → Bool
 is_counting z = not (slice_index z 0 == 48) && nat_lt 0 (length z) && list_all is_ascii_digit z
 
--- `0`, or an optional `-` and digits that don't begin with 0, in the range of 64 bits signed
+-- an integer from -2^63 to 2^63 - 1, with no zero in front and no `-` before a zero
 unfoldable pub is_integer : Bytes → Bool
 is_integer z =
     bytes_eq z (codes "0")
@@ -68,8 +68,8 @@ quoted_len escaped [] = 0
 quoted_len true (b ∷ z) = 1 + quoted_len false z
 quoted_len false (b ∷ z) = if b == 34 then 1 else 1 + quoted_len (b == 92) z
 
--- How many bytes the token at the front takes, where one begins there: the whole run of letters, digits and `_` that
--- stands there, behind its `@` or `-` where it has one; a text up to its closing quote; the longest sign.
+-- How many bytes the token at the front takes, where one begins there: a text ends with its closing quote, a sign is as
+-- long as it can be, and every other token ends before the next byte that no word has.
 unfoldable pub extent : Bytes → ℕ
 extent [] = 0
 extent (b ∷ z) =

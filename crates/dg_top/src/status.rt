@@ -4,21 +4,21 @@ ghost use Rattle.dg_top.specs.Status.{code_of};
 /// How a run ends.
 #[derive(Clone, Copy, Debug, PartialEq, Eq)]
 pub enum Status {
-    /// The document is in the grammar and no diagnostic stands. The sink has the whole output.
+    /// Each line is good and no rule is broken. The whole report is written.
     Ran,
-    /// The document breaks a rule. The sink has the diagnostics.
+    /// Each line is good, and a rule is broken. All diagnostics are written.
     Refused,
-    /// The words are in no form that the program has. Nothing was read or written.
+    /// The program has no such words. It reads and writes nothing.
     BadWords,
-    /// A line is bad. The sink has `bad line N`, N the first such line.
+    /// A line is bad. `bad line` and the number of the first such line are written.
     BadLine,
-    /// The source failed. Nothing was written.
+    /// The input couldn't be read to its end, and nothing is written.
     ReadFault,
-    /// The sink failed. It has a front of the output.
+    /// The output couldn't be written as a whole. What came before the failure is.
     WriteFault,
-    /// There was no memory. The sink has a front of the output.
+    /// Memory was refused. The output isn't written as a whole.
     NoMemory,
-    /// The document has more than 4,194,304 bytes. The sink has `too long`.
+    /// There are more bytes than a document may have, 4,194,304. `too long` is written.
     TooLong,
 }
 

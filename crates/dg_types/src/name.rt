@@ -4,8 +4,8 @@ use crate::memory::NoMemory;
 use std::alloc::Global;
 use std::marker::Model;
 
-/// A name as a document spells it: a letter, then letters, digits and `_`, at most 64 bytes in all.
-/// Contracts see the list of its bytes. That it is spelled so is said where a document is read.
+/// The name of something that a document declares. Contracts see the list of its bytes. Any bytes can be made a name:
+/// the reader of a document says which spellings it takes.
 #[derive(Debug, Drop)]
 pub struct Name {
     pub bytes: Vec<u8>,

@@ -3,7 +3,7 @@ use crate::name::Name;
 /// The type of a value, as a declaration spells it.
 #[derive(Debug, Drop)]
 pub enum Shape {
-    /// Text of bytes 32 to 126.
+    /// A text, of printable ASCII bytes.
     Text,
     /// An integer of 64 bits, signed.
     Int,

@@ -4,8 +4,8 @@ use crate::memory::NoMemory;
 use std::alloc::Global;
 use std::marker::Model;
 
-/// The value of a text, of bytes 32 to 126: `"` and `\\` stand as they are, without the `\\` before them.
-/// Contracts see the list of its bytes.
+/// The value of a text: what a document writes between quotes, without the `\` that it puts before a quote or another
+/// `\`. Contracts see the list of its bytes.
 #[derive(Debug, Drop)]
 pub struct Text {
     pub bytes: Vec<u8>,

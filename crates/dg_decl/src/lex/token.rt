@@ -6,15 +6,15 @@ use std::alloc::{AllocError, AllocFailed};
 /// What a token is. Words such as `module` are names, which have their meaning by their place.
 #[derive(Clone, Copy, Debug, PartialEq, Eq)]
 pub enum TokenKind {
-    /// A letter, then letters, digits and `_`, at most 64 bytes in all, and no reserved word.
+    /// A word that begins with a letter and isn't reserved. It has at most 64 bytes.
     Name,
     /// A reserved word: `new`, `if`, `then`, `else` or `await`.
     Word,
-    /// `@` and a name, with nothing between.
+    /// A name right behind an `@`, as in `@Singleton`.
     AtName,
-    /// `0`, or digits that don't begin with 0 behind an optional `-`, in the range of 64 bits signed.
+    /// An integer of 64 bits, signed, without zeros in front; zero has no sign.
     Integer,
-    /// A text in quotes, in which `\` stands before `"` and `\` alone.
+    /// A text in quotes. A quote or a `\` within it has a `\` before it, and nothing else has.
     Text,
     /// One of `(` `)` `{` `}` `<` `>` `,` `:` `==` `=` `.` `!` `?` `[` `]` `+`.
     Sign,
