@@ -17,7 +17,7 @@ earlier_of [] x place lt = absurd (omega arith)
 earlier_of (y ∷ ys) x zero lt = refl
 earlier_of (y ∷ ys) x (suc place) lt = earlier_of ys x place (omega arith)
 
-open_push : (items : List Item) (x : Item) → open_block (items ++ x ∷ []) ≡ open_after (open_block items) x
+pub open_push : (items : List Item) (x : Item) → open_block (items ++ x ∷ []) ≡ open_after (open_block items) x
 open_push items x = fold-append open_after None items (x ∷ [])
 
 pub gathered_push : (items : List Item) (x : Item) → in_open_block (items ++ x ∷ []) ≡ gathered (in_open_block items) x

@@ -4,9 +4,12 @@ pub mod ReadingLemmas
 pub mod ConditionLemmas
 pub mod TableLemmas
 pub mod ComponentLemmas
+pub mod BindingLemmas
 pub mod KnownLemmas
 pub mod DraftLemmas
+pub mod ComponentBindingLemmas
 pub mod PrintLemmas
+pub mod EvaluationLemmas
 pub mod NumberLemmas
 pub mod StreamLemmas
 pub mod OutputLemmas

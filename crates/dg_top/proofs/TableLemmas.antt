@@ -3,7 +3,7 @@ use Rattle.std.proofs.Common.{◌≡◌, ℕ, zero, suc, ◌+◌, Bool, true, fa
 use Rattle.std.specs.Bool.{one_answer}
 use Rattle.std.specs.List.{list_any, position_from, slice_get}
 use Rattle.std.specs.Map.{lookup, set_value}
-use Rattle.std.specs.Option.{option_and_then, option_map_or}
+use Rattle.std.specs.Option.{option_and_then, option_map, option_map_or}
 use Rattle.std.specs.Str.{bytes_eq}
 use Rattle.std.proofs.lemmas.List.Folds.{list_any-append}
 use Rattle.std.proofs.lemmas.Slice.Eq.{bytes_eq-Decides}
@@ -20,18 +20,62 @@ use Rattle.dg_top.proofs.DraftLemmas.{gathered_push}
 
 -- ---- tables
 
+pub is_none : {A : Type 0} (o : Option A) (b : Bool) → b ≡ is_some o → b ≡ false → o ≡ None
+is_none None b is fails = refl
+is_none (Some x) b is fails = absurd (true≢false (sym is ∙ fails))
+
+-- ---- a map's entries as they are seen, with the bytes of each key and what is seen of each value
+
+module _ {K X Y : Type 0} (bytes : K → Bytes) (value : X → Y) where
+  abbrev pub rows : List (K × X) → List (Bytes × Y)
+  rows entries = map (λ e. (bytes e.0, value e.1)) entries
+
+  pub lookup-rows : (name : Bytes) (entries : List (K × X)) → option_map value (lookup (λ k. bytes_eq name (bytes k)) entries) ≡ lookup (bytes_eq name) (rows entries)
+  lookup-rows name [] = refl
+  lookup-rows name (e ∷ es) = by (bytes_eq name (bytes e.0)) (lookup-rows name es)
+    where
+      by : (b : Bool) → option_map value (lookup (λ k. bytes_eq name (bytes k)) es) ≡ lookup (bytes_eq name) (rows es)
+          → option_map value (cond b (Some e.1) (lookup (λ k. bytes_eq name (bytes k)) es)) ≡ cond b (Some (value e.1)) (lookup (bytes_eq name) (rows es))
+      by true rest = refl
+      by false rest = rest
+
+  pub rows-push : (entries : List (K × X)) (e : K × X) → rows (entries ++ e ∷ []) ≡ rows entries ++ (bytes e.0, value e.1) ∷ []
+  rows-push [] e = refl
+  rows-push (x ∷ xs) e = ap (λ (t : List (Bytes × Y)). (bytes x.0, value x.1) ∷ t) (rows-push xs e)
+
+  pub rows-set_value : (name : Bytes) (entries : List (K × X)) (w : X) → rows (set_value (λ k. bytes_eq name (bytes k)) entries w) ≡ set_value (bytes_eq name) (rows entries) (value w)
+  rows-set_value name [] w = refl
+  rows-set_value name (e ∷ es) w = by (bytes_eq name (bytes e.0)) (rows-set_value name es w)
+    where
+      by : (b : Bool) → rows (set_value (λ k. bytes_eq name (bytes k)) es w) ≡ set_value (bytes_eq name) (rows es) (value w)
+          → rows (cond b ((e.0, w) ∷ es) (e ∷ set_value (λ k. bytes_eq name (bytes k)) es w)) ≡ cond b ((bytes e.0, value w) ∷ rows es) ((bytes e.0, value e.1) ∷ set_value (bytes_eq name) (rows es) (value w))
+      by true rest = refl
+      by false rest = ap (λ (t : List (Bytes × Y)). (bytes e.0, value e.1) ∷ t) rest
+
+  -- a key that the map hasn't isn't seen, and the other way round
+  pub absent_seen : (name : Bytes) (entries : List (K × X)) (b : Bool) → b ≡ is_some (lookup (λ k. bytes_eq name (bytes k)) entries) → b ≡ false → lookup (bytes_eq name) (rows entries) ≡ None
+  absent_seen name entries b is fails = sym (lookup-rows name entries) ∙ ap (option_map value) (is_none (lookup (λ k. bytes_eq name (bytes k)) entries) b is fails)
+
+  pub absent_there : (key name : Bytes) (entries : List (K × X)) (b : Bool) → key ≡ name → b ≡ is_some (lookup (λ k. bytes_eq name (bytes k)) entries) → b ≡ false → lookup (λ k. bytes_eq key (bytes k)) entries ≡ None
+  absent_there key name entries b same is fails = ap (λ (n : Bytes). lookup (λ k. bytes_eq n (bytes k)) entries) same ∙ is_none (lookup (λ k. bytes_eq name (bytes k)) entries) b is fails
+
+  pub present_seen : (name : Bytes) (entries : List (K × X)) (x : X) → Some x ≡ lookup (λ k. bytes_eq name (bytes k)) entries → Some (value x) ≡ lookup (bytes_eq name) (rows entries)
+  present_seen name entries x there = ap (option_map value) there ∙ lookup-rows name entries
+
+-- the same where a value is seen as it is
 module _ {K X : Type 0} (bytes : K → Bytes) where
-  -- a map's entries, with the bytes of each key
   abbrev pub seen : List (K × X) → List (Bytes × X)
-  seen entries = map (λ e. (bytes e.0, e.1)) entries
+  seen entries = rows bytes (λ x. x) entries
 
   pub lookup-seen : (name : Bytes) (entries : List (K × X)) → lookup (λ k. bytes_eq name (bytes k)) entries ≡ lookup (bytes_eq name) (seen entries)
-  lookup-seen name [] = refl
-  lookup-seen name (e ∷ es) = ap (cond (bytes_eq name (bytes e.0)) (Some e.1)) (lookup-seen name es)
+  lookup-seen name entries = same (lookup (λ k. bytes_eq name (bytes k)) entries) ∙ lookup-rows bytes (λ x. x) name entries
+    where
+      same : (o : Option X) → o ≡ option_map (λ x. x) o
+      same None = refl
+      same (Some x) = refl
 
   pub seen-push : (entries : List (K × X)) (e : K × X) → seen (entries ++ e ∷ []) ≡ seen entries ++ (bytes e.0, e.1) ∷ []
-  seen-push [] e = refl
-  seen-push (x ∷ xs) e = ap (λ (t : List (Bytes × X)). (bytes x.0, x.1) ∷ t) (seen-push xs e)
+  seen-push entries e = rows-push bytes (λ x. x) entries e
 
   pub seen-take : (n : ℕ) (entries : List (K × X)) → seen (take n entries) ≡ take n (seen entries)
   seen-take zero xs = refl
@@ -39,17 +83,7 @@ module _ {K X : Type 0} (bytes : K → Bytes) where
   seen-take (suc n) (x ∷ xs) = ap (λ (t : List (Bytes × X)). (bytes x.0, x.1) ∷ t) (seen-take n xs)
 
   pub seen-set_value : (name : Bytes) (entries : List (K × X)) (w : X) → seen (set_value (λ k. bytes_eq name (bytes k)) entries w) ≡ set_value (bytes_eq name) (seen entries) w
-  seen-set_value name [] w = refl
-  seen-set_value name (e ∷ es) w = by (bytes_eq name (bytes e.0)) (seen-set_value name es w)
-    where
-      by : (b : Bool) → seen (set_value (λ k. bytes_eq name (bytes k)) es w) ≡ set_value (bytes_eq name) (seen es) w
-          → seen (cond b ((e.0, w) ∷ es) (e ∷ set_value (λ k. bytes_eq name (bytes k)) es w)) ≡ cond b ((bytes e.0, w) ∷ seen es) ((bytes e.0, e.1) ∷ set_value (bytes_eq name) (seen es) w)
-      by true rest = refl
-      by false rest = ap (λ (t : List (Bytes × X)). (bytes e.0, e.1) ∷ t) rest
-
-pub is_none : {A : Type 0} (o : Option A) (b : Bool) → b ≡ is_some o → b ≡ false → o ≡ None
-is_none None b is fails = refl
-is_none (Some x) b is fails = absurd (true≢false (sym is ∙ fails))
+  seen-set_value name entries w = rows-set_value bytes (λ x. x) name entries w
 
 pub no_place : (name : Bytes) (table : Table) (b : Bool) → b ≡ is_some (place_in name table) → b ≡ false → place_in name table ≡ None
 no_place name table b is fails = is_none (place_in name table) b is fails
@@ -63,22 +97,23 @@ with_old name place table b is holds = rw (sym is ∙ holds) refl
 -- ---- what a table has, once there is one more name
 
 -- a place, where the test holds
-abbrev at : Bool → ℕ → Option ℕ
+abbrev pub at : Bool → ℕ → Option ℕ
 at b place = if b then Some place else None
 
-or_none : {A : Type 0} (o : Option A) → o ≡ or_else o None
+pub or_none : {A : Type 0} (o : Option A) → o ≡ or_else o None
 or_none None = refl
 or_none (Some x) = refl
 
 pub bytes_eq_turned : (a b : Bytes) → bytes_eq a b ≡ bytes_eq b a
 bytes_eq_turned a b = one_answer (bytes_eq a b) (bytes_eq b a) (bytes_eq-Decides a b) ((λ e. sym ((bytes_eq-Decides b a).0 e)), (λ e. (bytes_eq-Decides b a).1 (sym e)))
 
-place_in-push : (n name : Bytes) (place : ℕ) (table : Table) → place_in n (table ++ (name, place) ∷ []) ≡ or_else (place_in n table) (at (bytes_eq n name) place)
-place_in-push n name place [] = refl
-place_in-push n name place (row ∷ rows) = by (bytes_eq n row.0) (place_in-push n name place rows)
+-- the row at the end counts where no other has its name
+pub lookup_push : {X : Type 0} (n name : Bytes) (x : X) (rows : List (Bytes × X)) → lookup (bytes_eq n) (rows ++ (name, x) ∷ []) ≡ or_else (lookup (bytes_eq n) rows) (if bytes_eq n name then Some x else None)
+lookup_push n name x [] = refl
+lookup_push {X = X} n name x (row ∷ rows) = by (bytes_eq n row.0) (lookup_push n name x rows)
   where
-    by : (b : Bool) → place_in n (rows ++ (name, place) ∷ []) ≡ or_else (place_in n rows) (at (bytes_eq n name) place)
-        → cond b (Some row.1) (place_in n (rows ++ (name, place) ∷ [])) ≡ or_else (cond b (Some row.1) (place_in n rows)) (at (bytes_eq n name) place)
+    by : (b : Bool) → lookup (bytes_eq n) (rows ++ (name, x) ∷ []) ≡ or_else (lookup (bytes_eq n) rows) (if bytes_eq n name then Some x else None)
+        → cond b (Some row.1) (lookup (bytes_eq n) (rows ++ (name, x) ∷ [])) ≡ or_else (cond b (Some row.1) (lookup (bytes_eq n) rows)) (if bytes_eq n name then Some x else None)
     by true rest = refl
     by false rest = rest
 
@@ -91,7 +126,7 @@ place_in-with_name n name place table = by (place_in name table) refl
     same (Some j) k b there = refl
 
     by : (o : Option ℕ) → place_in name table ≡ o → place_in n (with_name name place table) ≡ or_else (place_in n table) (at (bytes_eq n name) place)
-    by None none = ap (place_in n) (with_new name place table none) ∙ place_in-push n name place table
+    by None none = ap (place_in n) (with_new name place table none) ∙ lookup_push n name place table
     by (Some k) some = ap (place_in n) (with_old name place table true (sym (ap is_some some)) refl)
         ∙ same (place_in n table) k (bytes_eq n name) (λ e. ap (λ (m : Bytes). place_in m table) ((bytes_eq-Decides n name).0 e) ∙ some)
 
@@ -104,7 +139,7 @@ place_in-noted name_in x place table n = by (name_in x)
 
 -- ---- what items declare, once there is one more
 
-position_push : (p : Item → Bool) (i : ℕ) (items : List Item) (x : Item) → position_from p i (items ++ x ∷ []) ≡ or_else (position_from p i items) (at (p x) (i + length items))
+pub position_push : {A : Type 0} (p : A → Bool) (i : ℕ) (xs : List A) (x : A) → position_from p i (xs ++ x ∷ []) ≡ or_else (position_from p i xs) (at (p x) (i + length xs))
 position_push p i [] x = ap (at (p x)) (omega arith)
 position_push p i (y ∷ ys) x =
     let next : i + 1 + length ys ≡ i + suc (length ys) = omega arith in
@@ -199,9 +234,9 @@ outer_is n (x ∷ xs) = by x (declares class_name n xs) (declares module_name n 
     by (OpenLine k d) a m c rest = rest
     by (AskLine i e) a m c rest = rest
 
--- a look-up whose answer, where the test passes, is what the item itself gives
-module _ {B : Type 0} (look : Item → Option B) (test : Item → Bool) (part : Item → Option B) (is : (x : Item) → look x ≡ (if test x then part x else None)) (some : (x : Item) → test x ≡ true → is_some (part x) ≡ true) where
-  first_none : (i : ℕ) (items : List Item) → position_from test i items ≡ None → first look items ≡ None
+-- a look-up whose answer, where the test passes, is what the member itself gives
+module _ {A B : Type 0} (look : A → Option B) (test : A → Bool) (part : A → Option B) (is : (x : A) → look x ≡ (if test x then part x else None)) (some : (x : A) → test x ≡ true → is_some (part x) ≡ true) where
+  first_none : (i : ℕ) (items : List A) → position_from test i items ≡ None → first look items ≡ None
   first_none i [] none = refl
   first_none i (x ∷ xs) none = by (test x) refl (first_none (i + 1) xs)
     where
@@ -209,7 +244,7 @@ module _ {B : Type 0} (look : Item → Option B) (test : Item → Bool) (part : 
       by true e rest = cc (sym none ∙ ap (λ (b : Bool). cond b (Some i) (position_from test (i + 1) xs)) e)
       by false e rest = ap (λ (o : Option B). or_else o (first look xs)) (is x ∙ ap (λ (b : Bool). if b then part x else None) e) ∙ rest (sym (ap (λ (b : Bool). cond b (Some i) (position_from test (i + 1) xs)) e) ∙ none)
 
-  first_here : (i : ℕ) (x : Item) (xs : List Item) (k : ℕ) → test x ≡ true → position_from test i (x ∷ xs) ≡ Some k → (j : ℕ) × (k ≡ i + j) × (first look (x ∷ xs) ≡ option_and_then part (slice_get (x ∷ xs) j))
+  first_here : (i : ℕ) (x : A) (xs : List A) (k : ℕ) → test x ≡ true → position_from test i (x ∷ xs) ≡ Some k → (j : ℕ) × (k ≡ i + j) × (first look (x ∷ xs) ≡ option_and_then part (slice_get (x ∷ xs) j))
   first_here i x xs k e at_k =
       let here : Some i ≡ Some k = sym (ap (λ (b : Bool). cond b (Some i) (position_from test (i + 1) xs)) e) ∙ at_k in
       let same : i ≡ k = cc here in
@@ -219,7 +254,7 @@ module _ {B : Type 0} (look : Item → Option B) (test : Item → Bool) (part : 
       whole None fails = absurd (true≢false (sym fails))
       whole (Some y) holds = refl
 
-  first_at : (i : ℕ) (items : List Item) (k : ℕ) → position_from test i items ≡ Some k → (j : ℕ) × (k ≡ i + j) × (first look items ≡ option_and_then part (slice_get items j))
+  first_at : (i : ℕ) (items : List A) (k : ℕ) → position_from test i items ≡ Some k → (j : ℕ) × (k ≡ i + j) × (first look items ≡ option_and_then part (slice_get items j))
   first_at i [] k at_k = cc at_k
   first_at i (x ∷ xs) k at_k = by (test x) refl (first_at (i + 1) xs k)
     where
@@ -231,14 +266,14 @@ module _ {B : Type 0} (look : Item → Option B) (test : Item → Bool) (part : 
           let less : k ≡ i + 1 + r.0 = r.1 in
           (suc r.0, omega arith, ap (λ (o : Option B). or_else o (first look xs)) (is x ∙ ap (λ (b : Bool). if b then part x else None) e) ∙ r.2)
 
-  first_from_start : (items : List Item) (k : ℕ) → position_from test 0 items ≡ Some k → first look items ≡ option_and_then part (slice_get items k)
+  first_from_start : (items : List A) (k : ℕ) → position_from test 0 items ≡ Some k → first look items ≡ option_and_then part (slice_get items k)
   first_from_start items k at_k =
       let r = first_at 0 items k at_k in
       let same : r.0 ≡ k = (let e : k ≡ 0 + r.0 = r.1 in omega arith) in
       r.2 ∙ ap (λ (j : ℕ). option_and_then part (slice_get items j)) same
 
-  -- the answer is a part of the item at the place, where there is one
-  pub found_first : (items : List Item) (o : Option ℕ) → position_from test 0 items ≡ o → first look items ≡ option_and_then (λ k. option_and_then part (slice_get items k)) o
+  -- the answer is a part of the member at the place, where there is one
+  pub found_first : (items : List A) (o : Option ℕ) → position_from test 0 items ≡ o → first look items ≡ option_and_then (λ k. option_and_then part (slice_get items k)) o
   found_first items None none = first_none 0 items none
   found_first items (Some k) at_k = first_from_start items k at_k
 

@@ -1,15 +1,16 @@
--- What the tables of a draft know of its items.
+-- What tables of names know of items.
 use Rattle.std.specs.Prelude.{◌≡◌, ℕ, List, [], Option, Some, None, is_some, if◌then◌else◌}
 use Rattle.std.specs.List.{position_from}
 use Rattle.std.specs.Option.{option_map_or}
 use Rattle.dg_decl.specs.declared.item.Item.{Item}
 use Rattle.dg_decl.specs.declared.item.Item.TheVariants.{Class, Component, Entry, OpenLine}
 use Rattle.dg_decl.specs.declared.item.Param.{Param}
+use Rattle.dg_types.specs.declared.shape.TypeUse.{TypeUse}
 use Rattle.dg_decl.specs.Bytes.{Bytes}
-use Rattle.dg_decl.specs.Blocks.{in_open_block}
-use Rattle.dg_decl.specs.Lookup.{entry_of}
+use Rattle.dg_decl.specs.Blocks.{in_open_block, placed}
+use Rattle.dg_decl.specs.Lookup.{entry_in}
 use Rattle.dg_decl.specs.Conditions.{is_this, declares, module_name, component_name, instance_name, member_name}
-use Rattle.dg_top.specs.declared.reader.names.Names.{Names}
+use Rattle.dg_top.specs.declared.lookup.names.Names.{Names}
 use Rattle.dg_top.specs.declared.reader.counts.Counts.{Counts}
 use Rattle.dg_top.specs.Drafts.{bounds_block, BeginsAt, counts_of}
 use Rattle.dg_top.specs.Tables.{Table, place_in, with_name}
@@ -29,9 +30,18 @@ abbrev pub opened_class : Item → Option Bytes
 opened_class (OpenLine n c) = Some c
 opened_class item = None
 
+-- the type of an entry point
+abbrev pub entry_type : Item → Option TypeUse
+entry_type (Entry n t) = Some t
+entry_type item = None
+
 -- the place of the first item with this name, of that kind of names
 abbrev pub place_of : (Item → Option Bytes) → Bytes → List Item → Option ℕ
 place_of name_in n items = position_from (λ item. is_this (name_in item) n) 0 items
+
+-- the place of the first entry point of this name in a component
+abbrev pub entry_position : Bytes → Bytes → List Item → Option ℕ
+entry_position class entry items = position_from (λ p. is_some (entry_in class entry p)) 0 (placed items)
 
 -- the table has the names of that kind, each with the place of the first item that has it
 pub record KnowsPlaces (name_in : Item → Option Bytes) (table : Table) (items : List Item) : Type 0 where
@@ -41,10 +51,10 @@ pub record KnowsPlaces (name_in : Item → Option Bytes) (table : Table) (items 
 pub record KnowsNames (name_in : Item → Option Bytes) (table : Table) (items : List Item) : Type 0 where
   pub has : (n : Bytes) → is_some (place_in n table) ≡ declares name_in n items
 
--- the components are those that the items declare, with their entry points
+-- the components are those that the items declare, with their entry points, each with the place of the first of its name
 pub record KnowsEntries (entries : Entries) (items : List Item) : Type 0 where
   pub has : (c : Bytes) → is_some (table_of c entries) ≡ declares component_name c items
-  pub entry : (c e : Bytes) → is_some (entry_place c e entries) ≡ is_some (entry_of c e items)
+  pub entry : (c e : Bytes) → entry_place c e entries ≡ entry_position c e items
 
 -- the tables have the names that these items declare
 pub record KnowsAll (names : Names) (items : List Item) : Type 0 where

@@ -4,6 +4,7 @@ pub mod Drafts
 pub mod Tables
 pub mod Components
 pub mod Known
+pub mod Bindings
 pub mod Adding
 pub mod ReadFaults
 pub mod Evaluation

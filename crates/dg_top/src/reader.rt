@@ -1,6 +1,5 @@
 //! Reads a document from its bytes.
 
-mod components;
 mod conditions;
 mod counts;
 mod document;
@@ -9,9 +8,7 @@ mod fault;
 mod forms;
 mod lexemes;
 mod meaning;
-mod names;
 mod split;
-mod table;
 
 pub use document::read_doc;
 pub use fault::ReadDocFault;

@@ -7,7 +7,7 @@ ghost use Rattle.dg_top.specs.Evaluation as evaluation;
 ghost use Rattle.dg_top.specs.Printing as printing;
 ghost use Rattle.dg_top.specs.Report as spec;
 
-use crate::lookup::{class_of, entry_of, first_body, modules_of, params_of};
+use crate::lookup::Declarations;
 use dg_decl::{Expr, Item, Param};
 use dg_types::NoMemory;
 use itoa::Buffer;
@@ -21,12 +21,13 @@ const CELLS: usize = 0;
 
 /// The body that answers an ask of this entry point of this instance.
 #[tactic(auto, unfolding(crate::specs::Evaluation::body_of_ask))]
-fn body_of_ask<'a>(items: &'a [Item], inst: &[u8], entry: &[u8]) -> Option<&'a Expr>
-    ensures exact { option_copied result ≡ evaluation.body_of_ask items.now (inst.now, entry.now) }
+fn body_of_ask<'a>(declarations: &Declarations<'a>, inst: &[u8], entry: &[u8]) -> Option<&'a Expr>
+    ensures exact { option_copied result ≡ evaluation.body_of_ask declarations.now (inst.now, entry.now) }
 {
-    let class = class_of(inst, items)?;
-    let wanted = entry_of(class, entry, items)?;
-    first_body(modules_of(class, items)?, wanted, items)
+    let class = declarations.class_of(inst)?;
+    let wanted = declarations.entry_of(class, entry)?;
+    let binding = declarations.bindings(class, wanted).first()?;
+    Some(binding.body)
 }
 
 fn push_decimal(out: &mut Vec<u8>, n: usize) -> Result<(), NoMemory>
@@ -137,17 +138,17 @@ fn push_fields(out: &mut Vec<u8>, params: &[Param], args: &[Expr]) -> Result<(),
 /// Prints `C#n` and the fields of an object that appears for the first time.
 fn push_object(
     out: &mut Vec<u8>,
-    items: &[Item],
+    declarations: &Declarations<'_>,
     class: &[u8],
     args: &[Expr],
     number: usize,
 ) -> Result<(), NoMemory>
-    ensures exact { OnOk result (out.new.items ≡ out.old.items ++ printing.object_text items.now class.now args.now number) }
+    ensures exact { OnOk result (out.new.items ≡ out.old.items ++ printing.object_text declarations.now class.now args.now number) }
 {
     out.extend_from_slice(class)?;
     out.push(b'#')?;
     push_decimal(out, number)?;
-    match params_of(class, items) {
+    match declarations.params_of(class) {
         Some(params) => push_fields(out, params, args)?,
         None => push_fields(out, &[], args)?,
     }
@@ -157,12 +158,12 @@ fn push_object(
 /// Prints what a body gives, where `objects` have appeared before, and says how many have appeared then.
 fn push_value(
     out: &mut Vec<u8>,
-    items: &[Item],
+    declarations: &Declarations<'_>,
     body: &Expr,
     objects: usize,
 ) -> Result<usize, NoMemory>
     requires { objects < 2 ^ 64 - 1 }
-    ensures exact { IfOk result (λ count. (ask : ℕ) → printing.Prints out.old.items out.new.items objects count (evaluation.evaluate items.now ask body.now)) }
+    ensures exact { IfOk result (λ count. (ask : ℕ) → printing.Prints out.old.items out.new.items objects count (evaluation.evaluate declarations.now ask body.now)) }
 {
     match body {
         Expr::Text(text) => {
@@ -175,7 +176,7 @@ fn push_value(
         }
         Expr::New { class, args } => {
             let number = objects + 1;
-            push_object(out, items, class.as_slice(), args.as_slice(), number)?;
+            push_object(out, declarations, class.as_slice(), args.as_slice(), number)?;
             Ok(number)
         }
     }
@@ -198,35 +199,35 @@ fn cut_from(out: &mut Vec<u8>, start: usize) -> Result<(), NoMemory>
 /// then.
 fn push_reply(
     out: &mut Vec<u8>,
-    items: &[Item],
+    declarations: &Declarations<'_>,
     number: usize,
     body: &Expr,
     objects: usize,
 ) -> Result<usize, NoMemory>
     requires { objects < 2 ^ 64 - 1 }
-    ensures exact { IfOk result (λ count. printing.Replies out.old.items out.new.items number objects count (evaluation.evaluate items.now number body.now)) }
+    ensures exact { IfOk result (λ count. printing.Replies out.old.items out.new.items number objects count (evaluation.evaluate declarations.now number body.now)) }
 {
     push_decimal(out, number)?;
     out.push(b' ')?;
     let start = out.len();
-    let count = push_value(out, items, body, objects)?;
+    let count = push_value(out, declarations, body, objects)?;
     cut_from(out, start)?;
     out.push(b'\n')?;
     Ok(count)
 }
 
-/// What is written for a document with these items.
-pub fn report(alloc: Global, items: &[Item]) -> Result<Vec<u8>, NoMemory>
-    ensures exact { IfOk result (λ text. text.items ≡ spec.report items.now) }
+/// What is written for a document that breaks no rule.
+pub fn report(alloc: Global, declarations: &Declarations<'_>) -> Result<Vec<u8>, NoMemory>
+    ensures exact { IfOk result (λ text. text.items ≡ spec.report declarations.now) }
 {
     let mut out = Vec::new(alloc);
     let mut asks = 0;
     let mut objects = 0;
-    for item in items {
+    for item in declarations.items() {
         if let Item::AskLine { inst, entry } = item {
             asks += 1;
-            if let Some(body) = body_of_ask(items, inst.as_slice(), entry.as_slice()) {
-                objects = push_reply(&mut out, items, asks, body, objects)?;
+            if let Some(body) = body_of_ask(declarations, inst.as_slice(), entry.as_slice()) {
+                objects = push_reply(&mut out, declarations, asks, body, objects)?;
             }
         }
     }

@@ -8,6 +8,7 @@ ghost use Rattle.dg_top.specs.Runs.{Writes, TakesAtMost, BadLineExactly, Refused
 ghost use Rattle.dg_top.specs.Answers.{Answers, AnswersItems};
 
 use crate::input::{InputFault, read_all};
+use crate::lookup::Declarations;
 use crate::output::write_all;
 use crate::reader::{ReadDocFault, read_doc};
 use crate::report::report;
@@ -55,11 +56,12 @@ fn bad_line(alloc: Global, line: u32) -> Result<Answer, NoMemory>
 fn answer_to_items(alloc: Global, items: &[Item]) -> Result<Answer, NoMemory>
     ensures exact { IfOk result (λ a. AnswersItems items.now a.status a.text.items) }
 {
-    let broken = violations(alloc, items)?;
+    let declarations = Declarations::of(alloc, items)?;
+    let broken = violations(alloc, &declarations)?;
     if broken.is_empty() {
         Ok(Answer {
             status: Status::Ran,
-            text: report(alloc, items)?,
+            text: report(alloc, &declarations)?,
         })
     } else {
         Ok(Answer {

@@ -1,16 +1,16 @@
 //! The items of a document that is being read.
 
-ghost use Rattle.std.specs.Prelude.{◌≡◌, ◌≤◌, [], ◌∷◌, ◌++◌, length, slice_get, is_some, OnOk, OnErr};
-ghost use Rattle.std.specs.Option.{option_and_then, option_copied, option_map};
+ghost use Rattle.std.specs.Prelude.{◌≡◌, ◌≤◌, [], ◌∷◌, ◌++◌, length, is_some, OnOk, OnErr};
+ghost use Rattle.std.specs.Option.{option_copied, option_map};
 ghost use Rattle.dg_decl.specs.Blocks as blocks;
 ghost use Rattle.dg_decl.specs.Conditions as conditions;
 ghost use Rattle.dg_decl.specs.Lookup as lookup;
 ghost use Rattle.dg_top.specs.Drafts as drafts;
 ghost use Rattle.dg_top.specs.Known as known;
 
+use crate::lookup::Names;
 use crate::reader::conditions::{is_admitted, may_stand};
 use crate::reader::counts::Counts;
-use crate::reader::names::Names;
 use dg_decl::{Item, Param};
 use dg_types::NoMemory;
 use std::alloc::Global;
@@ -53,13 +53,6 @@ fn bounds_block(item: &Item) -> bool
     )
 }
 
-/// The item at a place, if there is one.
-fn item_at(items: &[Item], place: usize) -> Option<&Item>
-    ensures exact { option_copied result ≡ slice_get items.now place }
-{
-    items.get(place)
-}
-
 /// The header that stands just before a place, if one does.
 fn header_before(items: &[Item], place: usize) -> Option<&Item>
     requires { place ≤ length items.now }
@@ -71,26 +64,6 @@ fn header_before(items: &[Item], place: usize) -> Option<&Item>
     let item = &items[place - 1];
     match item {
         Item::Module { .. } | Item::Component { .. } => Some(item),
-        _ => None,
-    }
-}
-
-/// The parameters of a class.
-fn fields_of(item: Option<&Item>) -> Option<&[Param]>
-    ensures exact { option_map (λ ps. ps.now) result ≡ option_and_then known.fields_of (option_copied item.entry) }
-{
-    match item {
-        Some(Item::Class { params, .. }) => Some(params.as_slice()),
-        _ => None,
-    }
-}
-
-/// The component that an `open` line names.
-fn opened_class(item: Option<&Item>) -> Option<&[u8]>
-    ensures exact { option_map (λ c. c.now) result ≡ option_and_then known.opened_class (option_copied item.entry) }
-{
-    match item {
-        Some(Item::OpenLine { class, .. }) => Some(class.as_slice()),
         _ => None,
     }
 }
@@ -165,27 +138,21 @@ impl Draft {
     pub fn params_of(&self, class: &[u8]) -> Option<&[Param]>
         ensures exact { option_map (λ ps. ps.now) result ≡ lookup.params_of class.now self.now }
     {
-        match self.names.classes.place_of(class) {
-            Some(place) => fields_of(item_at(self.items.as_slice(), place)),
-            None => None,
-        }
+        self.names.params_of(class, self.items.as_slice())
     }
 
     /// The component of which an instance is opened.
     pub fn class_of(&self, inst: &[u8]) -> Option<&[u8]>
         ensures exact { option_map (λ c. c.now) result ≡ lookup.class_of inst.now self.now }
     {
-        match self.names.instances.place_of(inst) {
-            Some(place) => opened_class(item_at(self.items.as_slice(), place)),
-            None => None,
-        }
+        self.names.class_of(inst, self.items.as_slice())
     }
 
     /// Whether a component has an entry point of this name.
     pub fn declares_entry(&self, class: &[u8], entry: &[u8]) -> bool
         ensures exact { result ≡ is_some (lookup.entry_of class.now entry.now self.now) }
     {
-        self.names.components.has_entry(class, entry)
+        self.names.components.entry_place(class, entry).is_some()
     }
 
     /// Whether an item may stand behind those of the draft.

@@ -3,26 +3,18 @@
 ghost use Rattle.std.specs.Prelude.{◌≡◌, ◌++◌, IfOk, OnOk};
 ghost use Rattle.dg_top.specs.Rules as spec;
 
-use crate::lookup::{Binding, bindings, modules_of};
+use crate::lookup::{Binding, Declarations};
 use crate::rules::request::{Request, component_behind, request_of};
 use crate::rules::site::{push_key, push_sites, site_of_request};
 use crate::rules::violation::{Rule, Violation};
-use dg_decl::Item;
 use dg_types::{NoMemory, Text};
 use std::alloc::Global;
 
 /// The bindings that a request finds.
-fn found<'a>(
-    alloc: Global,
-    items: &'a [Item],
-    request: &Request<'_>,
-) -> Result<Vec<Binding<'a>>, NoMemory>
-    ensures exact { IfOk result (λ bs. bs.items ≡ spec.found items.now request.now) }
+fn found<'t, 'a>(declarations: &'t Declarations<'a>, request: &Request<'_>) -> &'t [Binding<'a>]
+    ensures exact { result.now ≡ spec.found declarations.now request.now }
 {
-    match modules_of(request.class.as_slice(), items) {
-        Some(modules) => bindings(alloc, modules, request.wanted, items),
-        None => bindings(alloc, &[], request.wanted, items),
-    }
+    declarations.bindings(request.class.as_slice(), request.wanted)
 }
 
 fn key_of(alloc: Global, request: &Request<'_>) -> Result<Text, NoMemory>
@@ -83,27 +75,30 @@ fn duplicate_bindings(
 /// Adds what a request breaks: the list of the rules.
 fn broken_by(
     alloc: Global,
-    items: &[Item],
+    declarations: &Declarations<'_>,
     request: &Request<'_>,
     broken: &mut Vec<Violation>,
 ) -> Result<(), NoMemory>
-    ensures exact { OnOk result (broken.new.items ≡ broken.old.items ++ spec.broken_by items.now request.now) }
+    ensures exact { OnOk result (broken.new.items ≡ broken.old.items ++ spec.broken_by declarations.now request.now) }
 {
-    let bindings = found(alloc, items, request)?;
-    missing_binding(alloc, request, bindings.as_slice(), broken)?;
-    duplicate_bindings(alloc, request, bindings.as_slice(), broken)
+    let found = found(declarations, request);
+    missing_binding(alloc, request, found, broken)?;
+    duplicate_bindings(alloc, request, found, broken)
 }
 
-/// The violations of a document with these items, in the order of its requests.
+/// The violations of a document, in the order of its requests.
 #[tactic(auto, unfolding(crate::specs::Rules::violations))]
-pub fn violations(alloc: Global, items: &[Item]) -> Result<Vec<Violation>, NoMemory>
-    ensures exact { IfOk result (λ vs. vs.items ≡ spec.violations items.now) }
+pub fn violations(
+    alloc: Global,
+    declarations: &Declarations<'_>,
+) -> Result<Vec<Violation>, NoMemory>
+    ensures exact { IfOk result (λ vs. vs.items ≡ spec.violations declarations.now) }
 {
     let mut broken = Vec::new(alloc);
     let mut component = None;
-    for item in items {
+    for item in declarations.items() {
         if let Some(request) = request_of(component, item) {
-            broken_by(alloc, items, &request, &mut broken)?;
+            broken_by(alloc, declarations, &request, &mut broken)?;
         }
         component = component_behind(component, item);
     }

@@ -8,8 +8,8 @@ use Rattle.dg_decl.specs.Conditions.{component_name}
 use Rattle.dg_top.specs.Rules.{request_in, requests_of, broken_by}
 use Rattle.dg_top.proofs.rules.bindings.violations.Given as goal
 
--- what was found broken so far, and under the header h that is open what the requests that are left break
+-- what was found broken so far, and under the header h that is open what the requests that are left break, is all
 abbrev pub invariant-loop-item : goal.invariant-loop-item
 invariant-loop-item l =
     (h : Option Item) × (option_copied l.component ≡ option_and_then component_name h)
-    × (l.broken.items ++ flat_map (broken_by l.items) (filter_map request_in (placed_from h (drop l.item-index l.items))) ≡ flat_map (broken_by l.items) (requests_of l.items))
+    × (l.broken.items ++ flat_map (broken_by l.declarations) (filter_map request_in (placed_from h (drop l.item-index l.item-items))) ≡ flat_map (broken_by l.declarations) (requests_of l.item-items))

@@ -1,0 +1,33 @@
+use Rattle.std.proofs.Common.{◌++◌, ◌∷◌, [], is_some, sym, ap, subst, ◌∙◌}
+use Rattle.std.specs.Map.{lookup}
+use Rattle.std.specs.Str.{bytes_eq}
+use Rattle.indexmap.proofs.CallerLemmas.{insert_entry-new}
+use Rattle.dg_decl.specs.Bytes.{Bytes}
+use Rattle.dg_top.specs.Bindings.{AddsComponent}
+use Rattle.dg_top.proofs.TableLemmas.{seen, seen-push, lookup-seen, is_none}
+use Rattle.dg_top.proofs.ComponentBindingLemmas.{Tables, component_added, component_kept}
+use Rattle.dg_top.proofs.lookup.component_bindings.ComponentBindings.add.Goals as goal
+
+pub returns-in_ok-insert : goal.returns-in_ok-insert
+returns-in_ok-insert c =
+    let class = c.args.class.now in
+    let before = c.args.self.now in
+    let key = c.in_ok-class.class in
+    let found = c.in_ok-found.found in
+    let entries = c.self.inside.tables.entries in
+    let same = lookup-seen (λ k. k.items) class entries ∙ ap (lookup (bytes_eq class)) c.self.view_is in
+    let none = is_none (lookup (bytes_eq class) before) c.contains_key.result (c.contains_key.ensures ∙ ap is_some same) c.if-not-contains_key.true in
+    let absent = lookup-seen (λ k. k.items) key.items entries ∙ ap (lookup (bytes_eq key.items)) c.self.view_is ∙ ap (λ (n : Bytes). lookup (bytes_eq n) before) c.in_ok-class.ensures.items ∙ none in
+    let pushed = ap (seen (λ k. k.items)) (c.in_ok-insert.ensures.entries ∙ insert_entry-new _ c.self.inside.tables key found absent)
+    ∙ seen-push (λ k. k.items) entries (key, found)
+    ∙ ap (λ (t : Tables). t ++ (key.items, found) ∷ []) c.self.view_is
+    ∙ ap (λ (n : Bytes). before ++ (n, found) ∷ []) c.in_ok-class.ensures.items in
+    let adds = component_added class c.args.modules.now c.args.items.now before found c.in_ok-found.ensures.exact in
+    record { exact = subst (λ (t : Tables). AddsComponent class c.args.modules.now c.args.items.now before t) (sym pushed) adds }
+
+pub returns-else-not-contains_key : goal.returns-else-not-contains_key
+returns-else-not-contains_key c =
+    let same = lookup-seen (λ k. k.items) c.args.class.now c.self.inside.tables.entries ∙ ap (lookup (bytes_eq c.args.class.now)) c.self.view_is in
+    record {
+      exact = component_kept c.args.class.now c.args.modules.now c.args.items.now c.args.self.now (sym (ap is_some same) ∙ sym c.contains_key.ensures ∙ c.if-not-contains_key.false);
+    }

@@ -1,0 +1,25 @@
+use Rattle.std.proofs.Common.{◌++◌, ◌∷◌, [], is_some, sym, ap, ◌∙◌}
+use Rattle.indexmap.proofs.CallerLemmas.{insert_entry-new}
+use Rattle.dg_decl.specs.Bytes.{Bytes}
+use Rattle.dg_top.specs.Tables.{Table, place_in}
+use Rattle.dg_top.proofs.TableLemmas.{seen, seen-push, lookup-seen, no_place, with_new, with_old}
+use Rattle.dg_top.proofs.lookup.table.NameTable.add.Goals as goal
+
+pub returns-in_ok-insert-clause-exact : goal.returns-in_ok-insert-clause-exact
+returns-in_ok-insert-clause-exact c =
+    let key = c.in_ok-name.name in
+    let place = c.args.place in
+    let entries = c.self.inside.places.entries in
+    let same = lookup-seen (λ k. k.items) c.args.name.now entries ∙ ap (place_in c.args.name.now) c.self.view_is in
+    let none = no_place c.args.name.now c.args.self.now c.contains_key.result (c.contains_key.ensures ∙ ap is_some same) c.if-not-contains_key.true in
+    let absent = lookup-seen (λ k. k.items) key.items entries ∙ ap (place_in key.items) c.self.view_is ∙ ap (λ (n : Bytes). place_in n c.args.self.now) c.in_ok-name.ensures.items ∙ none in
+    ap (seen (λ k. k.items)) (c.in_ok-insert.ensures.entries ∙ insert_entry-new _ c.self.inside.places key place absent)
+    ∙ seen-push (λ k. k.items) entries (key, place)
+    ∙ ap (λ (t : Table). t ++ (key.items, place) ∷ []) c.self.view_is
+    ∙ ap (λ (n : Bytes). c.args.self.now ++ (n, place) ∷ []) c.in_ok-name.ensures.items
+    ∙ sym (with_new c.args.name.now place c.args.self.now none)
+
+pub returns-else-not-contains_key-clause-exact : goal.returns-else-not-contains_key-clause-exact
+returns-else-not-contains_key-clause-exact c =
+    let same = lookup-seen (λ k. k.items) c.args.name.now c.self.inside.places.entries ∙ ap (place_in c.args.name.now) c.self.view_is in
+    sym (with_old c.args.name.now c.args.place c.args.self.now c.contains_key.result (c.contains_key.ensures ∙ ap is_some same) c.if-not-contains_key.false)
