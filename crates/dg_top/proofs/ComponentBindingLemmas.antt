@@ -47,7 +47,7 @@ component_kept name modules items tables there = record {
 
 -- ---- what the tables know, once there is one more item
 
-first_push : {A B : Type 0} (f : A → Option B) (xs : List A) (x : A) → first f (xs ++ x ∷ []) ≡ or_else (first f xs) (f x)
+pub first_push : {A B : Type 0} (f : A → Option B) (xs : List A) (x : A) → first f (xs ++ x ∷ []) ≡ or_else (first f xs) (f x)
 first_push {B = B} f [] x = by (f x)
   where
     by : (o : Option B) → or_else o None ≡ o

@@ -61,7 +61,7 @@ module _ {V E : Type 0} (Q : Type 0) where
 
 -- ---- what items declare, once there is one more
 
-placed_push : (header : Option Item) (items : List Item) (x : Item) → placed_from header (items ++ x ∷ []) ≡ placed_from header items ++ (fold open_after header items, x) ∷ []
+pub placed_push : (header : Option Item) (items : List Item) (x : Item) → placed_from header (items ++ x ∷ []) ≡ placed_from header items ++ (fold open_after header items, x) ∷ []
 placed_push header [] x = refl
 placed_push header (y ∷ ys) x = ap (λ (ps : List (Option Item × Item)). (header, y) ∷ ps) (placed_push (open_after header y) ys x)
 

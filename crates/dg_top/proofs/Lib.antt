@@ -10,6 +10,7 @@ pub mod DraftLemmas
 pub mod ComponentBindingLemmas
 pub mod PrintLemmas
 pub mod EvaluationLemmas
+pub mod TotalityLemmas
 pub mod NumberLemmas
 pub mod StreamLemmas
 pub mod OutputLemmas

@@ -11,6 +11,7 @@ pub mod Evaluation
 pub mod Report
 pub mod Printing
 pub mod Rules
+pub mod Totality
 pub mod Status
 pub mod Output
 pub mod Runs

@@ -1,4 +1,4 @@
-use crate::{Status, one_output, run_top};
+use crate::{Status, evaluation_is_total, one_output, run_top};
 use dg_io::{MemSink, MemSource, QuietGate};
 use std::alloc::{AllocError, Global};
 use std::test::Fail;
@@ -469,6 +469,7 @@ fn each_status_has_its_code(rt: HostRuntime) {
 }
 
 #[test]
-fn one_output_is_a_call(_rt: HostRuntime) {
+fn the_laws_are_calls(_rt: HostRuntime) {
     one_output();
+    evaluation_is_total();
 }
