@@ -1,5 +1,6 @@
 -- Tables of names, and the names that items declare.
 use Rattle.std.proofs.Common.{◌≡◌, ℕ, zero, suc, ◌+◌, Bool, true, false, cond, List, [], ◌∷◌, ◌++◌, map, length, take, Option, Some, None, is_some, if◌then◌else◌, ◌||◌, refl, sym, ap, subst, ◌∙◌, true≢false, arith}
+use Rattle.std.specs.Prelude.{Result, Ok, Err, OnErr}
 use Rattle.std.specs.Bool.{one_answer}
 use Rattle.std.specs.List.{list_any, position_from, slice_get}
 use Rattle.std.specs.Map.{lookup, set_value}
@@ -84,6 +85,11 @@ module _ {K X : Type 0} (bytes : K → Bytes) where
 
   pub seen-set_value : (name : Bytes) (entries : List (K × X)) (w : X) → seen (set_value (λ k. bytes_eq name (bytes k)) entries w) ≡ set_value (bytes_eq name) (seen entries) w
   seen-set_value name entries w = rows-set_value bytes (λ x. x) name entries w
+
+-- what holds is the cause of any refusal
+pub is_cause : {V E Q : Type 0} (r : Result V E) → Q → OnErr r Q
+is_cause (Ok x) q = tt
+is_cause (Err e) q = q
 
 pub no_place : (name : Bytes) (table : Table) (b : Bool) → b ≡ is_some (place_in name table) → b ≡ false → place_in name table ≡ None
 no_place name table b is fails = is_none (place_in name table) b is fails

@@ -56,6 +56,7 @@ impl Components {
     /// Adds a component without entry points, unless there is one of its name. After an `Err` all is as it was before.
     pub fn add(&mut self, class: &[u8]) -> Result<(), NoMemory>
         ensures exact { OnOk result (self.new ≡ components.with_component class.now self.old) }
+        ensures cause { OnErr result (components.table_of class.now self.old ≡ None) }
         ensures lent { OnErr result (self.new ≡ self.old) }
     {
         if !self.tables.contains_key(class) {

@@ -1,6 +1,6 @@
 //! Tables of names.
 
-ghost use Rattle.std.specs.Prelude.{◌≡◌, [], length, take, OnOk, OnErr};
+ghost use Rattle.std.specs.Prelude.{◌≡◌, [], None, length, take, OnOk, OnErr};
 ghost use Rattle.dg_top.specs.Tables as tables;
 
 use dg_types::NoMemory;
@@ -52,6 +52,7 @@ impl NameTable {
     /// Adds a name with its place, unless the table has the name already. After an `Err` the table is as it was before.
     pub fn add(&mut self, name: &[u8], place: usize) -> Result<(), NoMemory>
         ensures exact { OnOk result (self.new ≡ tables.with_name name.now place self.old) }
+        ensures cause { OnErr result (tables.place_in name.now self.old ≡ None) }
         ensures lent { OnErr result (self.new ≡ self.old) }
     {
         if !self.places.contains_key(name) {

@@ -1,6 +1,6 @@
 //! The stage of bindings: what each request of a document finds.
 
-ghost use Rattle.std.specs.Prelude.{◌≡◌, ◌++◌, IfOk, OnOk};
+ghost use Rattle.std.specs.Prelude.{◌≡◌, ◌≢◌, [], ◌++◌, IfOk, OnErr, OnOk};
 ghost use Rattle.dg_top.specs.Rules as spec;
 
 use crate::lookup::{Binding, Declarations};
@@ -43,6 +43,7 @@ fn missing_binding(
     broken: &mut Vec<Violation>,
 ) -> Result<(), NoMemory>
     ensures exact { OnOk result (broken.new.items ≡ broken.old.items ++ spec.missing_binding request.now found.now) }
+    ensures cause { OnErr result (spec.missing_binding request.now found.now ≢ []) }
 {
     if found.is_empty() {
         broken.push(Violation {
@@ -61,6 +62,7 @@ fn duplicate_bindings(
     broken: &mut Vec<Violation>,
 ) -> Result<(), NoMemory>
     ensures exact { OnOk result (broken.new.items ≡ broken.old.items ++ spec.duplicate_bindings request.now found.now) }
+    ensures cause { OnErr result (spec.duplicate_bindings request.now found.now ≢ []) }
 {
     if found.len() > 1 {
         broken.push(Violation {
@@ -80,6 +82,7 @@ fn broken_by(
     broken: &mut Vec<Violation>,
 ) -> Result<(), NoMemory>
     ensures exact { OnOk result (broken.new.items ≡ broken.old.items ++ spec.broken_by declarations.now request.now) }
+    ensures cause { OnErr result (spec.broken_by declarations.now request.now ≢ []) }
 {
     let found = found(declarations, request);
     missing_binding(alloc, request, found, broken)?;
@@ -93,6 +96,7 @@ pub fn violations(
     declarations: &Declarations<'_>,
 ) -> Result<Vec<Violation>, NoMemory>
     ensures exact { IfOk result (λ vs. vs.items ≡ spec.violations declarations.now) }
+    ensures cause { OnErr result (spec.violations declarations.now ≢ []) }
 {
     let mut broken = Vec::new(alloc);
     let mut component = None;

@@ -1,6 +1,6 @@
 //! How a diagnostic names what it speaks of.
 
-ghost use Rattle.std.specs.Prelude.{◌≡◌, ◌++◌, map, IfOk, OnOk};
+ghost use Rattle.std.specs.Prelude.{◌≡◌, ◌<◌, ◌++◌, length, map, IfOk, OnErr, OnOk};
 ghost use Rattle.std.specs.List.{flat_map};
 ghost use Rattle.dg_top.specs.Rules as spec;
 
@@ -42,6 +42,7 @@ fn push_later_sites(out: &mut Vec<u8>, class: &Name, later: &[Binding<'_>]) -> R
 /// The sites of bindings that a component finds, with `, ` between.
 pub fn push_sites(out: &mut Vec<u8>, class: &Name, found: &[Binding<'_>]) -> Result<(), NoMemory>
     ensures exact { OnOk result (out.new.items ≡ out.old.items ++ spec.listed (map (spec.site_of_binding class.now) found.now)) }
+    ensures cause { OnErr result (0 < length found.now) }
 {
     let [first, later @ ..] = found else {
         return Ok(());

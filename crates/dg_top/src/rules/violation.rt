@@ -1,6 +1,6 @@
 //! What a document breaks, and the line that says so.
 
-ghost use Rattle.std.specs.Prelude.{◌≡◌, ◌++◌, IfOk, OnOk};
+ghost use Rattle.std.specs.Prelude.{◌≡◌, ◌<◌, ◌++◌, length, IfOk, OnErr, OnOk};
 ghost use Rattle.std.specs.List.{flat_map};
 ghost use Rattle.dg_top.specs.Rules as spec;
 
@@ -48,6 +48,7 @@ fn push_line(out: &mut Vec<u8>, violation: &Violation) -> Result<(), NoMemory>
 /// The lines of violations, one after another.
 pub fn lines(alloc: Global, violations: &[Violation]) -> Result<Vec<u8>, NoMemory>
     ensures exact { IfOk result (λ text. text.items ≡ flat_map spec.line_of violations.now) }
+    ensures cause { OnErr result (0 < length violations.now) }
 {
     let mut out = Vec::new(alloc);
     for violation in violations {

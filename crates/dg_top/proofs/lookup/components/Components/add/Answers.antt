@@ -2,7 +2,7 @@ use Rattle.std.proofs.Common.{◌++◌, ◌∷◌, [], is_some, sym, ap, ◌∙�
 use Rattle.indexmap.proofs.CallerLemmas.{insert_entry-new}
 use Rattle.dg_decl.specs.Bytes.{Bytes}
 use Rattle.dg_top.specs.Components.{Entries, table_of}
-use Rattle.dg_top.proofs.TableLemmas.{seen, seen-push, lookup-seen, is_none}
+use Rattle.dg_top.proofs.TableLemmas.{seen, seen-push, lookup-seen, is_cause, is_none}
 use Rattle.dg_top.proofs.ComponentLemmas.{with_new_component, with_old_component}
 use Rattle.dg_top.proofs.lookup.components.Components.add.Goals as goal
 
@@ -23,3 +23,13 @@ pub returns-else-not-contains_key-clause-exact : goal.returns-else-not-contains_
 returns-else-not-contains_key-clause-exact c =
     let same = lookup-seen (λ k. k.items) c.args.class.now c.self.inside.tables.entries ∙ ap (table_of c.args.class.now) c.self.view_is in
     sym (with_old_component c.args.class.now c.args.self.now c.contains_key.result (c.contains_key.ensures ∙ ap is_some same) c.if-not-contains_key.false)
+
+pub returns-in_err-class-clause-cause : goal.returns-in_err-class-clause-cause
+returns-in_err-class-clause-cause c =
+    let same = lookup-seen (λ k. k.items) c.args.class.now c.self.inside.tables.entries ∙ ap (table_of c.args.class.now) c.self.view_is in
+    is_cause c.from_residual.result (is_none (table_of c.args.class.now c.args.self.now) c.contains_key.result (c.contains_key.ensures ∙ ap is_some same) c.if-not-contains_key.true)
+
+pub returns-in_err-insert-clause-cause : goal.returns-in_err-insert-clause-cause
+returns-in_err-insert-clause-cause c =
+    let same = lookup-seen (λ k. k.items) c.args.class.now c.self.inside.tables.entries ∙ ap (table_of c.args.class.now) c.self.view_is in
+    is_cause c.from_residual-in_err-insert.result (is_none (table_of c.args.class.now c.args.self.now) c.contains_key.result (c.contains_key.ensures ∙ ap is_some same) c.if-not-contains_key.true)

@@ -2,7 +2,7 @@ use Rattle.std.proofs.Common.{◌++◌, ◌∷◌, [], is_some, sym, ap, ◌∙�
 use Rattle.indexmap.proofs.CallerLemmas.{insert_entry-new}
 use Rattle.dg_decl.specs.Bytes.{Bytes}
 use Rattle.dg_top.specs.Tables.{Table, place_in}
-use Rattle.dg_top.proofs.TableLemmas.{seen, seen-push, lookup-seen, no_place, with_new, with_old}
+use Rattle.dg_top.proofs.TableLemmas.{seen, seen-push, lookup-seen, is_cause, no_place, with_new, with_old}
 use Rattle.dg_top.proofs.lookup.table.NameTable.add.Goals as goal
 
 pub returns-in_ok-insert-clause-exact : goal.returns-in_ok-insert-clause-exact
@@ -23,3 +23,13 @@ pub returns-else-not-contains_key-clause-exact : goal.returns-else-not-contains_
 returns-else-not-contains_key-clause-exact c =
     let same = lookup-seen (λ k. k.items) c.args.name.now c.self.inside.places.entries ∙ ap (place_in c.args.name.now) c.self.view_is in
     sym (with_old c.args.name.now c.args.place c.args.self.now c.contains_key.result (c.contains_key.ensures ∙ ap is_some same) c.if-not-contains_key.false)
+
+pub returns-in_err-name-clause-cause : goal.returns-in_err-name-clause-cause
+returns-in_err-name-clause-cause c =
+    let same = lookup-seen (λ k. k.items) c.args.name.now c.self.inside.places.entries ∙ ap (place_in c.args.name.now) c.self.view_is in
+    is_cause c.from_residual.result (no_place c.args.name.now c.args.self.now c.contains_key.result (c.contains_key.ensures ∙ ap is_some same) c.if-not-contains_key.true)
+
+pub returns-in_err-insert-clause-cause : goal.returns-in_err-insert-clause-cause
+returns-in_err-insert-clause-cause c =
+    let same = lookup-seen (λ k. k.items) c.args.name.now c.self.inside.places.entries ∙ ap (place_in c.args.name.now) c.self.view_is in
+    is_cause c.from_residual-in_err-insert.result (no_place c.args.name.now c.args.self.now c.contains_key.result (c.contains_key.ensures ∙ ap is_some same) c.if-not-contains_key.true)
