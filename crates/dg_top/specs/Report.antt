@@ -61,7 +61,8 @@ cut z = if nat_le (length z) value_limit then z else take value_limit z ++ codes
 abbrev pub reply_line : ℕ → Bytes → Bytes
 reply_line number value = decimal number ++ 32 ∷ cut value ++ line_end ∷ []
 
--- the reply to an ask, and the objects that have appeared then
+-- The reply to an ask, and the objects that have appeared then. An ask without a value has none; in a document that is
+-- read and breaks no rule each ask has a value.
 abbrev pub reply : ℕ → List Place → Option Value → Bytes × List Place
 reply number appeared None = ([], appeared)
 reply number appeared (Some value) = (reply_line number (printed appeared value).0, (printed appeared value).1)
