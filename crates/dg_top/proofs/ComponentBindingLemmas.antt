@@ -105,21 +105,13 @@ no_modules type items = from None items
     from header [] = refl
     from header (x ∷ xs) = rw (gives_none header x) (from (open_after header x) xs)
 
-pub bindings_found : (tables : Tables) (items : List Item) (class : Bytes) (type : TypeUse) (found : ByType) → KnowsComponents tables items items → Some found ≡ lookup (bytes_eq class) tables
-    → of_type type found ≡ bindings (unwrap_or (modules_of class items) []) type items
-bindings_found tables items class type found knows there = by (modules_of class items) (ap (option_map (of_type type)) there ∙ knows.each class type)
+pub bindings_of : (tables : Tables) (items : List Item) (class : Bytes) (type : TypeUse) → KnowsComponents tables items items
+    → unwrap_or (option_map (of_type type) (lookup (bytes_eq class) tables)) [] ≡ bindings (unwrap_or (modules_of class items) []) type items
+bindings_of tables items class type knows = ap (λ (o : Option (List Binding)). unwrap_or o []) (knows.each class type) ∙ by (modules_of class items)
   where
-    by : (o : Option (List Bytes)) → Some (of_type type found) ≡ option_map (λ ms. bindings ms type items) o → of_type type found ≡ bindings (unwrap_or o []) type items
-    by None same = cc same
-    by (Some ms) same = cc same
-
-pub bindings_none : (tables : Tables) (items : List Item) (class : Bytes) (type : TypeUse) → KnowsComponents tables items items → None ≡ lookup (bytes_eq class) tables
-    → [] ≡ bindings (unwrap_or (modules_of class items) []) type items
-bindings_none tables items class type knows none = by (modules_of class items) (ap (option_map (of_type type)) none ∙ knows.each class type)
-  where
-    by : (o : Option (List Bytes)) → None ≡ option_map (λ ms. bindings ms type items) o → [] ≡ bindings (unwrap_or o []) type items
-    by None same = sym (no_modules type items)
-    by (Some ms) same = cc same
+    by : (o : Option (List Bytes)) → unwrap_or (option_map (λ ms. bindings ms type items) o) [] ≡ bindings (unwrap_or o []) type items
+    by None = sym (no_modules type items)
+    by (Some ms) = refl
 
 -- ---- the turns of the loop
 

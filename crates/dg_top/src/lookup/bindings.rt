@@ -1,7 +1,7 @@
 //! The bindings of modules, found by their type.
 
-ghost use Rattle.std.specs.Prelude.{◌≡◌, [], Option, unwrap_or, IfOk, OnOk};
-ghost use Rattle.std.specs.Option.{option_copied, option_map};
+ghost use Rattle.std.specs.Prelude.{◌≡◌, Option, IfOk, OnOk};
+ghost use Rattle.std.specs.Option.{option_copied};
 ghost use Rattle.dg_decl.specs.declared.item.Item.{Item};
 ghost use Rattle.dg_decl.specs.Blocks as blocks;
 ghost use Rattle.dg_decl.specs.Bytes as bytes;
@@ -52,13 +52,6 @@ fn module_behind<'a>(owner: Option<&'a Name>, item: &'a Item, modules: &[Name]) 
         Item::Module { .. } | Item::Component { .. } | Item::End => None,
         _ => owner,
     }
-}
-
-/// The bindings of a group, none where there is no group.
-fn members<'g, 'a>(group: Option<&'g Vec<Binding<'a>>>) -> &'g [Binding<'a>]
-    ensures exact { result.now ≡ unwrap_or (option_map (λ g. g.items) (option_copied group.entry)) [] }
-{
-    group.map(|group| group.as_slice()).unwrap_or_default()
 }
 
 /// Bindings, each found by its type. Contracts see a list for each type, in the order in which the bindings came. To find
@@ -154,7 +147,10 @@ impl<'a> Bindings<'a> {
     fn of_class(&self, class: &[u8]) -> &[Binding<'a>]
         ensures exact { result.now ≡ spec.of_class class.now self.now.objects }
     {
-        members(self.objects.get(class))
+        self.objects
+            .get(class)
+            .map(|group| group.as_slice())
+            .unwrap_or_default()
     }
 
     /// The bindings of this type.

@@ -37,13 +37,6 @@ impl<'a> Model for Declarations<'a> {
     ghost invariant = { λ d. IsDeclared d.items.now d.names d.bindings };
 }
 
-/// No bindings.
-fn no_bindings<'b, 'a>() -> &'b [Binding<'a>]
-    ensures exact { result.now ≡ [] }
-{
-    &[]
-}
-
 impl<'a> Declarations<'a> {
     /// What these items declare.
     pub fn of(alloc: Global, items: &'a [Item]) -> Result<Declarations<'a>, NoMemory>
@@ -88,9 +81,9 @@ impl<'a> Declarations<'a> {
     pub fn bindings(&self, class: &[u8], wanted: &TypeUse) -> &[Binding<'a>]
         ensures exact { result.now ≡ lookup.bindings (unwrap_or (lookup.modules_of class.now self.now) []) wanted.now self.now }
     {
-        if let Some(found) = self.bindings.of_component(class) {
-            return found.of_type(wanted);
-        }
-        no_bindings()
+        self.bindings
+            .of_component(class)
+            .map(|found| found.of_type(wanted))
+            .unwrap_or_default()
     }
 }

@@ -1,6 +1,5 @@
-use Rattle.std.proofs.Common.{List, Option, ap, ◌∙◌}
+use Rattle.std.proofs.Common.{List, Option, ap, ◌∙◌, rules}
 use Rattle.std.specs.Prelude.{unwrap_or, []}
-use Rattle.std.specs.Option.{option_map}
 use Rattle.dg_decl.specs.Lookup.{Binding}
 use Rattle.dg_top.specs.Bindings.{ByType, of_class}
 use Rattle.dg_top.proofs.TableLemmas.{lookup-rows}
@@ -10,7 +9,6 @@ pub returns : goal.returns
 returns c =
     let class = c.args.class.now in
     record {
-      exact = c.members.ensures.exact ∙ ap (λ o. unwrap_or (option_map (λ g. g.items) o) []) c.get.ensures.value
-          ∙ ap (λ (o : Option (List Binding)). unwrap_or o []) (lookup-rows (λ k. k.items) (λ g. g.items) class c.self.inside.objects.entries)
+      exact = (search rules) ∙ ap (λ (o : Option (List Binding)). unwrap_or o []) (lookup-rows (λ k. k.items) (λ g. g.items) class c.self.inside.objects.entries)
           ∙ ap (λ (found : ByType). of_class class found.objects) c.self.view_is;
     }
