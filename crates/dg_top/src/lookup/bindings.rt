@@ -1,6 +1,6 @@
 //! The bindings of modules, found by their type.
 
-ghost use Rattle.std.specs.Prelude.{◌≡◌, Option, IfOk, OnOk};
+ghost use Rattle.std.specs.Prelude.{◌≡◌, ◌<◌, length, Option, IsSome, IfOk, OnErr, OnOk};
 ghost use Rattle.std.specs.Option.{option_copied};
 ghost use Rattle.dg_decl.specs.declared.item.Item.{Item};
 ghost use Rattle.dg_decl.specs.Blocks as blocks;
@@ -121,6 +121,7 @@ impl<'a> Bindings<'a> {
     /// Adds the binding of a `provides` line, where it stands in a module.
     fn add_item(&mut self, owner: Option<&'a Name>, item: &'a Item) -> Result<(), NoMemory>
         ensures exact { OnOk result (self.new ≡ spec.with_item (option_copied owner.entry) item.now self.old) }
+        ensures cause { OnErr result (IsSome (option_copied owner.entry)) }
     {
         match (owner, item) {
             (Some(owner), Item::Provides { name, result, body }) => {
@@ -133,6 +134,7 @@ impl<'a> Bindings<'a> {
     /// The bindings in these modules.
     pub fn of(alloc: Global, modules: &[Name], items: &'a [Item]) -> Result<Bindings<'a>, NoMemory>
         ensures exact { IfOk result (λ found. spec.KnowsBindings found modules.now items.now) }
+        ensures cause { OnErr result (0 < length items.now) }
     {
         let mut found = Bindings::new(alloc);
         let mut owner = None;

@@ -1,6 +1,6 @@
 //! The bindings of each component, found by its name.
 
-ghost use Rattle.std.specs.Prelude.{◌≡◌, [], IfOk, OnOk};
+ghost use Rattle.std.specs.Prelude.{◌≡◌, ◌<◌, [], length, None, IfOk, OnErr, OnOk};
 ghost use Rattle.std.specs.Map.{lookup};
 ghost use Rattle.std.specs.Option.{option_copied};
 ghost use Rattle.std.specs.Str.{bytes_eq};
@@ -47,6 +47,7 @@ impl<'a> ComponentBindings<'a> {
     /// Adds a component with its bindings, unless there is one of this name.
     fn add(&mut self, class: &[u8], modules: &[Name], items: &'a [Item]) -> Result<(), NoMemory>
         ensures exact { OnOk result (spec.AddsComponent class.now modules.now items.now self.old self.new) }
+        ensures cause { OnErr result (lookup (bytes_eq class.now) self.old ≡ None) }
     {
         if !self.tables.contains_key(class) {
             let found = Bindings::of(self.alloc, modules, items)?;
@@ -59,6 +60,7 @@ impl<'a> ComponentBindings<'a> {
     /// The bindings of each component that is declared in these items.
     pub fn of(alloc: Global, items: &'a [Item]) -> Result<ComponentBindings<'a>, NoMemory>
         ensures exact { IfOk result (λ tables. spec.KnowsComponents tables items.now items.now) }
+        ensures cause { OnErr result (0 < length items.now) }
     {
         let mut tables = ComponentBindings::new(alloc);
         for item in items {

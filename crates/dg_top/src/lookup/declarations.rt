@@ -1,6 +1,6 @@
 //! The items of a document with tables of what they declare.
 
-ghost use Rattle.std.specs.Prelude.{◌≡◌, [], unwrap_or, IfOk};
+ghost use Rattle.std.specs.Prelude.{◌≡◌, ◌<◌, [], length, unwrap_or, IfOk, OnErr};
 ghost use Rattle.std.specs.Option.{option_copied, option_map};
 ghost use Rattle.dg_decl.specs.Lookup as lookup;
 
@@ -41,11 +41,14 @@ impl<'a> Declarations<'a> {
     /// What these items declare.
     pub fn of(alloc: Global, items: &'a [Item]) -> Result<Declarations<'a>, NoMemory>
         ensures exact { IfOk result (λ declarations. declarations ≡ items.now) }
+        ensures cause { OnErr result (0 < length items.now) }
     {
+        let names = Names::of(alloc, items)?;
+        let bindings = ComponentBindings::of(alloc, items)?;
         Ok(Declarations {
             items,
-            names: Names::of(alloc, items)?,
-            bindings: ComponentBindings::of(alloc, items)?,
+            names,
+            bindings,
         })
     }
 

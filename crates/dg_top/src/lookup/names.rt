@@ -1,6 +1,6 @@
 //! The names that items declare, in tables.
 
-ghost use Rattle.std.specs.Prelude.{◌≡◌, IfOk, OnOk, OnErr};
+ghost use Rattle.std.specs.Prelude.{◌≡◌, ◌<◌, length, IfOk, OnOk, OnErr};
 ghost use Rattle.std.specs.List.{slice_get};
 ghost use Rattle.std.specs.Option.{option_and_then, option_copied, option_map};
 ghost use Rattle.dg_decl.specs.Blocks as blocks;
@@ -118,6 +118,7 @@ impl Names {
     /// The names that these items declare.
     pub fn of(alloc: Global, items: &[Item]) -> Result<Names, NoMemory>
         ensures exact { IfOk result (λ names. known.KnowsAll names items.now) }
+        ensures cause { OnErr result (0 < length items.now) }
     {
         let mut names = Names::new(alloc);
         let mut header = None;
