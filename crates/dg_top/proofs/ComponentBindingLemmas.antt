@@ -59,9 +59,6 @@ first_push {B = B} f (y ∷ ys) x = by (f y) (first_push f ys x)
     by None rest = rest
     by (Some z) rest = refl
 
-pub knows_none : (items : List Item) → KnowsComponents [] [] items
-knows_none items = record { each = λ class type. refl }
-
 pub knows_component : (name : Bytes) (modules : List Bytes) (items so_far : List Item) (before after : Tables) → KnowsComponents before so_far items → AddsComponent name modules items before after
     → KnowsComponents after (so_far ++ Component name modules ∷ []) items
 knows_component name modules items so_far before after knows adds = record {
