@@ -1,7 +1,0 @@
-use Rattle.std.proofs.Common.{rules, arith}
-use Rattle.std.proofs.lemmas.Grind.{common_steps}
-use Rattle.dg_decl.proofs.NumberLemmas.{not_integer}
-use Rattle.dg_decl.proofs.lex.kind.is_integer.Goals as goal
-
-pub returns-else-is_counting : goal.returns-else-is_counting
-returns-else-is_counting c = first_of (search (rules, not_integer), grind (arith, common_steps, not_integer))
