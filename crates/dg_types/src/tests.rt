@@ -33,6 +33,7 @@ fn a_text_keeps_its_bytes(rt: HostRuntime) -> Result<(), Fail> {
 #[test]
 fn a_type_names_its_class(rt: HostRuntime) -> Result<(), Fail> {
     let asked = TypeUse {
+        qualifier: None,
         shape: Shape::Named(Name::from_slice(rt.alloc(), b"Db")?),
     };
     match &asked.shape {

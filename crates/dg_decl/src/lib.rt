@@ -1,0 +1,19 @@
+//! What a document declares, as plain data; and in specs/ what a document means up to its checks: what is read from its
+//! bytes, its canonical text, its components, bindings, graph and diagnostics.
+#![tactic(auto)]
+
+mod binding;
+mod component;
+mod document;
+mod expression;
+mod graph;
+mod item;
+mod violation;
+
+pub use binding::{Bind, BindKind, BindRef, Found, Owned};
+pub use component::{Bound, Class, CompTree, Exposed};
+pub use document::{Doc, LineMeaning};
+pub use expression::{CallName, Cond, Expr, ParamCall, Tree};
+pub use graph::{BindGraph, Edge, EdgeKind, Node, NodeKind};
+pub use item::{AskStep, Item, Mark, OpenArg, Param};
+pub use violation::{Rule, Violation};

@@ -1,0 +1,81 @@
+use crate::name::Name;
+use crate::shape::Qualifier;
+use crate::text::Text;
+
+/// A type without parts: that of a text, of an integer, or of a class or interface.
+#[derive(Drop)]
+pub enum Base {
+    Text,
+    Int,
+    Named(Name),
+}
+
+/// The type of a map's keys.
+#[derive(Clone, Copy, Debug)]
+pub enum MapKind {
+    Text,
+    Int,
+}
+
+/// What a set holds, a map gives or an optional has inside, over its base type: the value itself, or a way to it. The
+/// order of the variants is the order in which nodes of one line stand.
+#[derive(Clone, Copy, Debug)]
+pub enum Inner {
+    /// The value.
+    Plain,
+    /// `Provider<B>`; of a map or an optional.
+    Provider,
+    /// `Lazy<B>`; of an optional.
+    Lazy,
+    /// `Provider<Lazy<B>>`; of an optional.
+    ProviderLazy,
+    /// `Produced<B>`; of a set or a map.
+    Produced,
+}
+
+/// The type of a key: a base type, or a set, map or optional of one.
+#[derive(Drop)]
+pub enum Core {
+    One(Base),
+    Set(Base, Inner),
+    Map(MapKind, Base, Inner),
+    Optional(Base, Inner),
+}
+
+/// How a request asks for what its key is bound to.
+#[derive(Clone, Copy, Debug)]
+pub enum Mode {
+    /// The value itself.
+    Instance,
+    /// `Provider<C>`
+    Provider,
+    /// `Lazy<C>`
+    Lazy,
+    /// `Provider<Lazy<C>>`
+    ProviderLazy,
+    /// `Produced<B>`
+    Produced,
+    /// `Producer<B>`
+    Producer,
+}
+
+/// What a binding binds and a request asks for, after Dagger: a type with at most one qualifier.
+#[derive(Drop)]
+pub struct Key {
+    pub qualifier: Option<Qualifier>,
+    pub core: Core,
+}
+
+/// What a parameter or an entry point asks for: a key, and in which form.
+#[derive(Drop)]
+pub struct Request {
+    pub mode: Mode,
+    pub key: Key,
+}
+
+/// The key of an entry of a map.
+#[derive(Drop)]
+pub enum MapKeyVal {
+    Text(Text),
+    Int(i64),
+}
