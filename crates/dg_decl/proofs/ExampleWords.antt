@@ -25,6 +25,8 @@ use Rattle.dg_decl.specs.declared.item.Mark.TheVariants as mark
 use Rattle.dg_decl.specs.declared.item.Item.{Item}
 use Rattle.dg_decl.specs.declared.item.Item.TheVariants as item
 use Rattle.dg_decl.specs.Document.{statements}
+use Rattle.std.specs.Fmt.{digits}
+use Rattle.dg_decl.specs.Sites.{site_of_line}
 use Rattle.dg_decl.specs.Names.{declared, module_named, class_item_named, fields_of}
 use Rattle.dg_decl.specs.Components.{class_count, class_named, class_name, header_of, parent_of, ancestors, chain, is_own_ancestor, scopes_of, is_replaced, seeds, included, is_reached, is_installed, installed, bound_of, class_around, entries_of, deps_of, exposed_of, component_classes}
 use Rattle.dg_decl.specs.Lookup.{bindings, explicit, explicit_in_chain, contributions, is_declared, is_optional_declared, find_without_explicit, line_of_multi, find}
@@ -33,7 +35,7 @@ use Rattle.dg_decl.specs.Stages.Dependencies.{stands_on, is_below, bad_depends_o
 
 -- what an example unfolds: a proof that unfolds this unfolds them all
 unfoldable pub looks_up : ℕ
-unfolding shapes.out-Shape out shown hidden block.shown-the_row-Shape-0 core_of request_of same_key hilt_classes statements declared module_named class_item_named fields_of class_count class_named class_name header_of parent_of ancestors chain is_own_ancestor scopes_of is_replaced seeds included is_reached is_installed installed bound_of class_around entries_of deps_of exposed_of component_classes bindings explicit explicit_in_chain contributions is_declared is_optional_declared find_without_explicit line_of_multi find parent_cycle ancestor_scope duplicate_entry bad_replace components_stage stands_on is_below bad_depends_on dependencies_stage
+unfolding digits site_of_line shapes.out-Shape out shown hidden block.shown-the_row-Shape-0 core_of request_of same_key hilt_classes statements declared module_named class_item_named fields_of class_count class_named class_name header_of parent_of ancestors chain is_own_ancestor scopes_of is_replaced seeds included is_reached is_installed installed bound_of class_around entries_of deps_of exposed_of component_classes bindings explicit explicit_in_chain contributions is_declared is_optional_declared find_without_explicit line_of_multi find parent_cycle ancestor_scope duplicate_entry bad_replace components_stage stands_on is_below bad_depends_on dependencies_stage
 looks_up = zero
 
 -- these items on the lines 1, 2 and so on

@@ -1,2 +1,3 @@
 pub mod ExampleWords
 pub mod ExamplesLookup
+pub mod ExamplesComponents
