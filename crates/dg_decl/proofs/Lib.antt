@@ -1,3 +1,4 @@
 pub mod ExampleWords
 pub mod ExamplesLookup
 pub mod ExamplesComponents
+mod WalkLemmas
