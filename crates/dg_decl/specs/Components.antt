@@ -1,6 +1,6 @@
 -- The component classes of a document by number, and what each holds. Hilt's are the first, and then come those that the
 -- document declares, in order.
-use Rattle.std.specs.Prelude.{ℕ, zero, suc, ◌+◌, ◌-◌, ◌==◌, nat_lt, nat_eq, Bool, true, false, not, ◌&&◌, if◌then◌else◌, List, [], ◌∷◌, ◌++◌, length, map, reverse, Option, Some, None, option_map, option_and_then, option_to_list, unwrap_or, slice_get}
+use Rattle.std.specs.Prelude.{◌≡◌, ◌↔◌, IsTrue, ℕ, zero, suc, ◌+◌, ◌-◌, ◌==◌, nat_lt, nat_eq, Bool, true, false, not, ◌&&◌, if◌then◌else◌, List, [], ◌∷◌, ◌++◌, length, map, reverse, Option, Some, None, option_map, option_and_then, option_to_list, unwrap_or, slice_get}
 use Rattle.std.specs.Option.{option_or}
 use Rattle.std.specs.Str.{bytes_eq}
 use Rattle.std.specs.List.{filter, filter_map, flat_map, list_any, position, range_with_len, enumerate_from}
@@ -107,6 +107,19 @@ root_first doc c = reverse (chain doc c)
 unfoldable pub is_own_ancestor : Doc → ℕ → Bool
 is_own_ancestor doc c = list_any (nat_eq c) (ancestors doc c)
 
+-- the classes from a class to its root, by parents
+pub data IsChain (doc : Doc) : ℕ → List ℕ → Type 0 where
+  at_root : (c : ℕ) → parent_of doc c ≡ None → IsChain doc c (c ∷ [])
+  under : (c p : ℕ) (ps : List ℕ) → parent_of doc c ≡ Some p → IsChain doc p ps → IsChain doc c (c ∷ ps)
+
+-- a walk of parents from a class comes to no class again
+abbrev pub has_root : Doc → ℕ → Bool
+has_root doc c = not (list_any (is_own_ancestor doc) (chain doc c))
+
+-- the chain of a class whose walk of parents meets no cycle is the whole walk
+abbrev pub ChainsAreWhole : Type 0
+ChainsAreWhole = (doc : Doc) (c : ℕ) → IsTrue (has_root doc c) → IsChain doc c (chain doc c)
+
 -- ---- scopes
 
 abbrev pub scopes_in : Item → List Bytes
@@ -174,6 +187,10 @@ Reached doc c m = IsReached (included doc) (seeds doc c) m
 -- the same, by walks of at most as many steps as the document has items
 unfoldable pub is_reached : Doc → ℕ → ℕ → Bool
 is_reached doc c m = is_within nat_eq (included doc) (length doc.items) (seeds doc c) m
+
+-- as many steps as there are items are enough for any walk of `includes`
+abbrev pub ReachedByShortWalks : Type 0
+ReachedByShortWalks = (doc : Doc) (c m : ℕ) → IsTrue (is_reached doc c m) ↔ Reached doc c m
 
 -- a module is reached from a class, and from no ancestor of it
 unfoldable pub is_installed : Doc → ℕ → ℕ → Bool

@@ -4,6 +4,7 @@
 
 mod binding;
 mod component;
+mod components_laws;
 mod document;
 mod expression;
 mod graph;
@@ -12,6 +13,7 @@ mod violation;
 
 pub use binding::{Bind, BindKind, BindRef, Found, Owned};
 pub use component::{Bound, Class, CompTree, Exposed};
+pub use components_laws::{below_by_short_walks, chains_are_whole, reached_by_short_walks};
 pub use document::{Doc, LineMeaning};
 pub use expression::{CallName, Cond, Expr, ParamCall, Tree};
 pub use graph::{BindGraph, Edge, EdgeKind, Node, NodeKind};

@@ -11,7 +11,7 @@ use Rattle.dg_decl.specs.declared.violation.Violation.{Violation}
 use Rattle.dg_decl.specs.Document.{Statement, statements}
 use Rattle.dg_decl.specs.Sites.{site_of_line}
 use Rattle.dg_decl.specs.Names.{is_called, module_named, item_at}
-use Rattle.dg_decl.specs.Components.{number_of_header, class_name, ancestors, chain, is_own_ancestor, scopes_in, carries, replaces_in, is_entry_of, class_around}
+use Rattle.dg_decl.specs.Components.{number_of_header, class_name, ancestors, has_root, is_own_ancestor, scopes_in, carries, replaces_in, is_entry_of, class_around}
 
 -- a rule that a line breaks by a name
 abbrev pub at_line : Rule → Statement → Bytes → Violation
@@ -25,10 +25,6 @@ headed doc s = option_to_list (number_of_header doc s)
 unfoldable pub parent_cycle : Doc → Statement → List Violation
 parent_cycle doc s =
     map (λ c. at_line rule.ParentCycle s (class_name doc c)) (filter (is_own_ancestor doc) (headed doc s))
-
--- a walk of parents from a class comes to no class again
-abbrev pub has_root : Doc → ℕ → Bool
-has_root doc c = not (list_any (is_own_ancestor doc) (chain doc c))
 
 -- an ancestor of a class carries a scope
 abbrev pub ancestor_carries : Doc → ℕ → Bytes → Bool

@@ -1,0 +1,22 @@
+//! The laws of component classes: where a definition walks at most so many steps, more steps come to nothing new.
+
+ghost use Rattle.dg_decl.specs.Components.{ChainsAreWhole, ReachedByShortWalks};
+ghost use Rattle.dg_decl.specs.Stages.Dependencies.{BelowByShortWalks};
+
+/// A walk of `includes`, of any length, leads from a seed of a class to a module exactly where one of at most as many
+/// steps as the document has items does. So which modules are installed, after Dagger and Hilt, depends on no number.
+pub fn reached_by_short_walks()
+    ensures exact { ReachedByShortWalks }
+{}
+
+/// A walk of parents and dependencies, of any length, leads from one component class to another exactly where one of at
+/// most as many steps as there are classes does.
+pub fn below_by_short_walks()
+    ensures exact { BelowByShortWalks }
+{}
+
+/// The chain of a class whose ancestors aren't on a cycle is its whole walk of parents: it ends at a class without a
+/// parent.
+pub fn chains_are_whole()
+    ensures exact { ChainsAreWhole }
+{}
