@@ -1,2 +1,4 @@
-pub mod Requests
+pub mod Bytes
 pub mod Equality
+pub mod Requests
+pub mod Texts
