@@ -15,9 +15,8 @@ use Rattle.dg_types.specs.declared.key.Core.{Core}
 use Rattle.dg_types.specs.declared.key.Core.TheVariants as core
 use Rattle.dg_types.specs.declared.key.Inner.{Inner}
 use Rattle.dg_types.specs.declared.key.Inner.TheVariants as inner
-use Rattle.dg_types.specs.Requests.{core_of, request_of}
+use Rattle.dg_types.specs.Requests.{base_of, kind_of, value_of, inside_of, core_of, plain_of, produced_of, producing_of, asked_of, request_of}
 use Rattle.dg_types.specs.Equality.{same_key}
-use Rattle.dg_hilt.specs.Table.{hilt_classes}
 use Rattle.dg_decl.specs.declared.document.Doc.{Doc}
 use Rattle.dg_decl.specs.declared.expression.Expr.TheVariants as expr
 use Rattle.dg_decl.specs.declared.item.Mark.{Mark}
@@ -35,27 +34,27 @@ use Rattle.dg_decl.specs.Stages.Dependencies.{stands_on, is_below, bad_depends_o
 
 -- what an example unfolds: a proof that unfolds this unfolds them all
 unfoldable pub looks_up : ℕ
-unfolding digits site_of_line shapes.out-Shape out shown hidden block.shown-the_row-Shape-0 core_of request_of same_key hilt_classes statements declared module_named class_item_named fields_of class_count class_named class_name header_of parent_of ancestors chain is_own_ancestor scopes_of is_replaced seeds included is_reached is_installed installed bound_of class_around entries_of deps_of exposed_of component_classes bindings explicit explicit_in_chain contributions is_declared is_optional_declared find_without_explicit line_of_multi find parent_cycle ancestor_scope duplicate_entry bad_replace components_stage stands_on is_below bad_depends_on dependencies_stage
+unfolding digits site_of_line shapes.out-Shape out shown hidden block.shown-the_row-Shape-0 base_of kind_of value_of inside_of core_of plain_of produced_of producing_of asked_of request_of same_key statements declared module_named class_item_named fields_of class_count class_named class_name header_of parent_of ancestors chain is_own_ancestor scopes_of is_replaced seeds included is_reached is_installed installed bound_of class_around entries_of deps_of exposed_of component_classes bindings explicit explicit_in_chain contributions is_declared is_optional_declared find_without_explicit line_of_multi find parent_cycle ancestor_scope duplicate_entry bad_replace components_stage stands_on is_below bad_depends_on dependencies_stage
 looks_up = zero
 
 -- these items on the lines 1, 2 and so on
 abbrev pub doc_of : List Item → Doc
 doc_of items = record { items = items; lines = range_with_len 1 (length items) }
 
-abbrev pub use_of : Shape → TypeUse
-use_of s = record { qualifier = None; shape = s }
+abbrev pub bare_use : Shape → TypeUse
+bare_use s = record { qualifier = None; shape = s }
 
 abbrev pub key_of : Core → Key
 key_of c = record { qualifier = None; core = c }
 
 abbrev pub text_use : TypeUse
-text_use = use_of shape.Text
+text_use = bare_use shape.Text
 
 abbrev pub text_key : Key
 text_key = key_of (core.One base.Text)
 
 abbrev pub class_use : Bytes → TypeUse
-class_use n = use_of (shape.Named n)
+class_use n = bare_use (shape.Named n)
 
 abbrev pub class_key : Bytes → Key
 class_key n = key_of (core.One (base.Named n))

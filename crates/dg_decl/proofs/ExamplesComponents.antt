@@ -199,7 +199,13 @@ whole =
 pub a_class_of_the_tree :
     drop 9 (component_classes whole)
     ≡ record {
-        name = codes "App"; parent = None; scopes = codes "S" ∷ []; modules = 1 ∷ [];
-        bound = record { name = codes "a"; shape = text_use } ∷ []; entries = 8 ∷ []; deps = 8 ∷ [] } ∷ []
+      name = codes "App";
+      parent = None;
+      scopes = codes "S" ∷ [];
+      modules = 1 ∷ [];
+      bound = record { name = codes "a"; shape = text_use } ∷ [];
+      entries = 8 ∷ [];
+      deps = 8 ∷ [];
+    } ∷ []
 unfolding looks_up
 a_class_of_the_tree = refl

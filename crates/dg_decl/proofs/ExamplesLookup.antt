@@ -17,7 +17,7 @@ use Rattle.dg_decl.specs.declared.binding.BindRef.TheVariants as ref
 use Rattle.dg_decl.specs.declared.binding.Found.TheVariants as found
 use Rattle.dg_decl.specs.Components.{installed}
 use Rattle.dg_decl.specs.Lookup.{owned, inside_key, line_of_multi, find}
-use Rattle.dg_decl.proofs.ExampleWords.{looks_up, doc_of, use_of, key_of, text_use, text_key, class_use, class_key, text_set, optional_text, module_line, including_line, component_line, child_line, text_line, element_line, entry_line, inject_line}
+use Rattle.dg_decl.proofs.ExampleWords.{looks_up, doc_of, bare_use, key_of, text_use, text_key, class_use, class_key, text_set, optional_text, module_line, including_line, component_line, child_line, text_line, element_line, entry_line, inject_line}
 
 -- a map from integers to texts
 abbrev number_map : Inner → Key
@@ -194,7 +194,7 @@ a_map_with_other_keys_is_not_there = refl
 abbrev declared_set : Doc
 declared_set =
     doc_of (module_line (codes "M")
-    ∷ item.Multibinds (codes "s") (use_of (shape.Set shape.Text))
+    ∷ item.Multibinds (codes "s") (bare_use (shape.Set shape.Text))
     ∷ item.End
     ∷ component_line (codes "App") (codes "M" ∷ [])
     ∷ item.End
@@ -315,7 +315,7 @@ its_binding_is_that_of_the_ancestor = refl
 abbrev exposing : Doc
 exposing =
     doc_of (component_line (codes "Dep") []
-    ∷ item.Entry (codes "s") (use_of (shape.Set shape.Text))
+    ∷ item.Entry (codes "s") (bare_use (shape.Set shape.Text))
     ∷ entry_line (codes "t")
     ∷ item.End
     ∷ component_line (codes "App") []

@@ -63,12 +63,9 @@ each_option bound (Some n) small = (small n refl, tt)
 
 -- ---- functions that give small numbers
 
-and_then_at : {A : Type 0} (bound : ℕ) (f : A → Option ℕ) (o : Option A) → GivesBelow bound f → (n : ℕ) → option_and_then f o ≡ Some n → n < bound
-and_then_at bound f None small n e = absurd (none_is_not_some n e)
-and_then_at bound f (Some a) small n e = small a n e
-
-pub below_and_then : {A : Type 0} (bound : ℕ) (f : A → Option ℕ) (o : Option A) → GivesBelow bound f → (n : ℕ) → option_and_then f o ≡ Some n → n < bound
-below_and_then bound f o small n e = and_then_at bound f o small n e
+pub below_and_then : {A : Type 0} (bound : ℕ) (f : A → Option ℕ) (o : Option A) → ((a : A) → o ≡ Some a → (n : ℕ) → f a ≡ Some n → n < bound) → (n : ℕ) → option_and_then f o ≡ Some n → n < bound
+below_and_then bound f None small n e = absurd (none_is_not_some n e)
+below_and_then bound f (Some a) small n e = small a refl n e
 
 pub below_or : (bound : ℕ) (o p : Option ℕ) → ((n : ℕ) → o ≡ Some n → n < bound) → ((n : ℕ) → p ≡ Some n → n < bound) → (n : ℕ) → option_or o p ≡ Some n → n < bound
 below_or bound None p first second n e = second n e

@@ -132,12 +132,12 @@ one_more_true : (a b : Bool) → (a ≡ true → b ≡ true) → one_if a ≤ on
 one_more_true true b h = rw (h refl) (omega arith)
 one_more_true false b h = omega arith
 
-at_most_all : (p : ℕ → Bool) (n : ℕ) → count_below p n ≤ n
+pub at_most_all : (p : ℕ → Bool) (n : ℕ) → count_below p n ≤ n
 at_most_all p zero = omega arith
 at_most_all p (suc n) = omega (arith, at_most_all p n, one_at_most (p n))
 
 -- each number below the bound that passes one test passes the other
-abbrev Passes : (ℕ → Bool) → (ℕ → Bool) → ℕ → Type 0
+abbrev pub Passes : (ℕ → Bool) → (ℕ → Bool) → ℕ → Type 0
 Passes p q bound = (n : ℕ) → n < bound → p n ≡ true → q n ≡ true
 
 passes_below : (p q : ℕ → Bool) (bound : ℕ) → Passes p q (suc bound) → Passes p q bound
@@ -192,7 +192,7 @@ all_pass p (suc k) h n lt =
 -- ---- walks come to an end of new nodes
 
 -- a step more reaches no other node
-abbrev IsClosed : (ℕ → List ℕ) → List ℕ → ℕ → Type 0
+abbrev pub IsClosed : (ℕ → List ℕ) → List ℕ → ℕ → Type 0
 IsClosed next roots k = (n : ℕ) → walked next (suc k) roots n ≡ true → walked next k roots n ≡ true
 
 -- each step leads to a number below the bound
@@ -210,28 +210,54 @@ closed_from : (next : ℕ → List ℕ) (bound : ℕ) → LeadsBelow next bound 
 closed_from next bound below roots k f n h =
     elim (last_step next k roots n h) [ inl w ↦ w | inr b ↦ f n (below b.before n b.leads) h ]
 
-closed_or_more : (next : ℕ → List ℕ) (bound : ℕ) → LeadsBelow next bound → (roots : List ℕ) (k : ℕ) → IsClosed next roots k ⊎ (k ≤ count_below (walked next k roots) bound)
-closed_or_more next bound below roots zero = inr (omega arith)
-closed_or_more next bound below roots (suc k) =
-    elim (closed_or_more next bound below roots k) [
+-- a number that passes is counted
+pub counts_one : (p : ℕ → Bool) (bound n : ℕ) → n < bound → p n ≡ true → 1 ≤ count_below p bound
+counts_one p zero n lt e = absurd (omega arith)
+counts_one p (suc k) n lt e =
+    elim (cases_lt n k) [
+      | inl below ↦ (let more : 1 ≤ count_below p k = counts_one p k n below e in omega arith)
+      | inr above ↦ (let same : n ≡ k = omega arith in counted_last p k (sym (ap p same) ∙ e))
+    ]
+  where
+    counted_last : (p : ℕ → Bool) (k : ℕ) → p k ≡ true → 1 ≤ count_below p k + one_if (p k)
+    counted_last p k e = rw e (omega arith)
+
+-- so many nodes are reached in no step
+abbrev StartsWith : (ℕ → List ℕ) → ℕ → List ℕ → ℕ → Type 0
+StartsWith next bound roots start = start ≤ count_below (walked next 0 roots) bound
+
+closed_or_more : (next : ℕ → List ℕ) (bound : ℕ) → LeadsBelow next bound → (roots : List ℕ) (start : ℕ) → StartsWith next bound roots start → (k : ℕ) → IsClosed next roots k ⊎ (start + k ≤ count_below (walked next k roots) bound)
+closed_or_more next bound below roots start first zero = inr (omega (arith, first))
+closed_or_more next bound below roots start first (suc k) =
+    elim (closed_or_more next bound below roots start first k) [
       | inl c ↦ inl (stays_closed next roots k c)
       | inr many ↦ elim (grows (walked next k roots) (walked next (suc k) roots) bound (λ n lt h. longer next k roots n h)) [
-          | inl f ↦ inl (stays_closed next roots k (closed_from next bound below roots k f))
-          | inr more ↦ inr (omega arith)
-        ]
+        | inl f ↦ inl (stays_closed next roots k (closed_from next bound below roots k f))
+        | inr more ↦ inr (omega arith)
+      ]
     ]
 
-closed_at_bound : (next : ℕ → List ℕ) (bound : ℕ) → LeadsBelow next bound → (roots : List ℕ) → IsClosed next roots bound
-closed_at_bound next bound below roots =
-    elim (closed_or_more next bound below roots bound) [
+closed_at : (next : ℕ → List ℕ) (bound : ℕ) → LeadsBelow next bound → (roots : List ℕ) (start : ℕ) → StartsWith next bound roots start → (k : ℕ) → bound ≤ start + k → IsClosed next roots k
+closed_at next bound below roots start first k enough =
+    elim (closed_or_more next bound below roots start first k) [
       | inl c ↦ c
-      | inr many ↦ closed_from next bound below roots bound (λ n lt h. all_pass (walked next bound roots) bound many n lt)
+      | inr many ↦ closed_from next bound below roots k (λ n lt h. all_pass (walked next k roots) bound (omega arith) n lt)
     ]
+
+reaches_closed : (next : ℕ → List ℕ) (roots : List ℕ) (k : ℕ) → IsClosed next roots k → (n : ℕ) → IsReached next roots n → walked next k roots n ≡ true
+reaches_closed next roots k closed n (root m h) = at_once next k roots m h
+reaches_closed next roots k closed n (step m o w h) =
+    closed o (one_more next k roots m o (reaches_closed next roots k closed m w) h)
 
 pub reaches_walked : (next : ℕ → List ℕ) (bound : ℕ) → LeadsBelow next bound → (roots : List ℕ) (n : ℕ) → IsReached next roots n → walked next bound roots n ≡ true
-reaches_walked next bound below roots n (root k h) = at_once next bound roots k h
-reaches_walked next bound below roots n (step m k w h) =
-    closed_at_bound next bound below roots k (one_more next bound roots m k (reaches_walked next bound below roots m w) h)
+reaches_walked next bound below roots n w =
+    reaches_closed next roots bound (closed_at next bound below roots 0 (omega arith) bound (omega arith)) n w
+
+-- from one node a step less is enough
+pub reaches_sooner : (next : ℕ → List ℕ) (k : ℕ) → LeadsBelow next (suc k) → (r n : ℕ) → r < suc k → IsReached next (r ∷ []) n → walked next k (r ∷ []) n ≡ true
+reaches_sooner next k below r n lt w =
+    let first = counts_one (walked next 0 (r ∷ [])) (suc k) r lt (at_once next 0 (r ∷ []) r (0, omega arith, refl)) in
+    reaches_closed next (r ∷ []) k (closed_at next (suc k) below (r ∷ []) 1 first k (omega arith)) n w
 
 -- as many steps as there are nodes are enough
 pub walks_within : (next : ℕ → List ℕ) (bound : ℕ) → LeadsBelow next bound → (roots : List ℕ) (n : ℕ) → IsTrue (walked next bound roots n) ↔ IsReached next roots n
