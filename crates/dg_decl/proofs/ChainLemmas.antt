@@ -4,8 +4,8 @@ use Rattle.std.specs.List.{list_any}
 use Rattle.std.proofs.lemmas.Bool.{false≢true, or_cases, or_left, or_right}
 use Rattle.dg_decl.specs.declared.document.Doc.{Doc}
 use Rattle.dg_decl.specs.Walks.{IsReached, root, step, is_within}
-use Rattle.dg_decl.specs.Components.{class_count, parent_of, walk, ancestors, chain, is_own_ancestor, IsChain, at_root, under, has_root, ChainsAreWhole}
-use Rattle.dg_decl.proofs.WalkLemmas.{any_from, any_is, walked, at_once, reached_beyond, walked_reaches, reaches_walked, reaches_sooner, count_below, at_most_all, counts_one, grows, Passes, LeadsBelow}
+use Rattle.dg_decl.specs.Components.{class_count, parent_of, walk, ancestors, chain, is_own_ancestor, parents, AncestorsAreWalks, IsChain, at_root, under, has_root, ChainsAreWhole}
+use Rattle.dg_decl.proofs.WalkLemmas.{any_from, any_is, is_any, walked, at_once, reached_beyond, walked_reaches, reaches_walked, reaches_sooner, count_below, at_most_all, counts_one, grows, Passes, LeadsBelow}
 use Rattle.dg_decl.proofs.NumberBounds.{below_of_each, each_option}
 use Rattle.dg_decl.proofs.ComponentLemmas.{parent_below}
 
@@ -35,9 +35,6 @@ walk_has next (suc k) (Some r) n h =
 
 -- ---- parents
 
-abbrev parents : Doc → ℕ → List ℕ
-parents doc = as_list (parent_of doc)
-
 parents_below : (doc : Doc) → LeadsBelow (parents doc) (class_count doc)
 parents_below doc m n c =
     below_of_each (class_count doc) (parents doc m) n
@@ -60,6 +57,23 @@ walks_back doc bound None x below small w = absurd (nothing_reached (parents doc
 walks_back doc zero (Some r) x below small w = absurd (let lt : r < 0 = small r refl in omega arith)
 walks_back doc (suc k) (Some r) x below small w =
     walk_has (parent_of doc) k (Some r) x (reaches_sooner (parents doc) k below r x (small r refl) w)
+
+walk_leads : (doc : Doc) (k : ℕ) (o : Option ℕ) (x : ℕ) → list_any (nat_eq x) (walk (parent_of doc) k o) ≡ true → IsReached (parents doc) (option_to_list o) x
+walk_leads doc zero o x h = absurd (false≢true h)
+walk_leads doc (suc k) None x h = absurd (false≢true h)
+walk_leads doc (suc k) (Some r) x h =
+    elim (or_cases (nat_eq x r) _ h) [
+      | inl same ↦ root x (any_is (r ∷ []) x (or_left (nat_eq x r) false same))
+      | inr later ↦ reached_beyond (parents doc) (r ∷ []) r x (it r) (walk_leads doc k (parent_of doc r) x later)
+    ]
+
+pub ancestors_are_walks : AncestorsAreWalks
+unfolding ancestors
+ancestors_are_walks doc c a =
+    let up = walk (parent_of doc) (class_count doc) (parent_of doc c) in (
+      λ among. walk_leads doc (class_count doc) (parent_of doc c) a (is_any up a among),
+      λ w. any_is up a (walks_back doc (class_count doc) (parent_of doc c) a (parents_below doc) (λ p e. parent_below doc c p e) w),
+    )
 
 own_ancestor : (doc : Doc) (x : ℕ) → IsReached (parents doc) (parents doc x) x → is_own_ancestor doc x ≡ true
 unfolding is_own_ancestor ancestors

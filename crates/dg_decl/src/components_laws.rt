@@ -1,6 +1,6 @@
 //! The laws of component classes: where a definition walks at most so many steps, more steps come to nothing new.
 
-ghost use Rattle.dg_decl.specs.Components.{ChainsAreWhole, ReachedByShortWalks};
+ghost use Rattle.dg_decl.specs.Components.{AncestorsAreWalks, ChainsAreWhole, ReachedByShortWalks};
 ghost use Rattle.dg_decl.specs.Stages.Dependencies.{BelowByShortWalks};
 
 /// A walk of `includes`, of any length, leads from a seed of a class to a module exactly where one of at most as many
@@ -13,6 +13,12 @@ pub fn reached_by_short_walks()
 /// most as many steps as there are classes does.
 pub fn below_by_short_walks()
     ensures exact { BelowByShortWalks }
+{}
+
+/// The ancestors of a class are the classes to which a walk of parents, of any length, leads from its parent; also where
+/// the walk meets a cycle.
+pub fn ancestors_are_walks()
+    ensures exact { AncestorsAreWalks }
 {}
 
 /// The chain of a class whose ancestors aren't on a cycle is its whole walk of parents: it ends at a class without a

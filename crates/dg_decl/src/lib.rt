@@ -13,7 +13,9 @@ mod violation;
 
 pub use binding::{Bind, BindKind, BindRef, Found, Owned};
 pub use component::{Bound, Class, CompTree, Exposed};
-pub use components_laws::{below_by_short_walks, chains_are_whole, reached_by_short_walks};
+pub use components_laws::{
+    ancestors_are_walks, below_by_short_walks, chains_are_whole, reached_by_short_walks,
+};
 pub use document::{Doc, LineMeaning};
 pub use expression::{CallName, Cond, Expr, ParamCall, Tree};
 pub use graph::{BindGraph, Edge, EdgeKind, Node, NodeKind};

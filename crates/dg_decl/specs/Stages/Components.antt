@@ -24,7 +24,8 @@ headed doc s = option_to_list (number_of_header doc s)
 -- a class is its own ancestor
 unfoldable pub parent_cycle : Doc → Statement → List Violation
 parent_cycle doc s =
-    map (λ c. at_line rule.ParentCycle s (class_name doc c)) (filter (is_own_ancestor doc) (headed doc s))
+    map (λ c. at_line rule.ParentCycle s (class_name doc c))
+    (filter (is_own_ancestor doc) (headed doc s))
 
 -- an ancestor of a class carries a scope
 abbrev pub ancestor_carries : Doc → ℕ → Bytes → Bool
@@ -35,7 +36,8 @@ unfoldable pub ancestor_scope : Doc → Statement → List Violation
 ancestor_scope doc s = flat_map broken_by (filter (has_root doc) (headed doc s))
   where
     broken_by : ℕ → List Violation
-    broken_by c = map (at_line rule.AncestorScope s) (filter (ancestor_carries doc c) (scopes_in s.item))
+    broken_by c =
+        map (at_line rule.AncestorScope s) (filter (ancestor_carries doc c) (scopes_in s.item))
 
 abbrev pub entry_name : Item → Option Bytes
 entry_name (item.Entry n result) = Some n
@@ -44,7 +46,8 @@ entry_name other = None
 -- an earlier entry of a class has this name
 abbrev pub has_earlier_entry : Doc → ℕ → ℕ → Bytes → Bool
 has_earlier_entry doc c index n =
-    list_any (λ s. nat_lt s.index index && is_entry_of doc c s && is_called entry_name n s) (statements doc)
+    list_any (λ s. nat_lt s.index index && is_entry_of doc c s && is_called entry_name n s)
+    (statements doc)
 
 -- an entry has the name of an earlier entry of its class, whichever blocks they stand in
 unfoldable pub duplicate_entry : Doc → Statement → List Violation
@@ -52,7 +55,8 @@ duplicate_entry doc s = flat_map broken_by (option_to_list (class_around doc s))
   where
     broken_by : ℕ → List Violation
     broken_by c =
-        map (at_line rule.DuplicateEntry s) (filter (has_earlier_entry doc c s.index) (option_to_list (entry_name s.item)))
+        map (at_line rule.DuplicateEntry s)
+        (filter (has_earlier_entry doc c s.index) (option_to_list (entry_name s.item)))
 
 abbrev pub has_install : Item → Bool
 has_install (item.Module install n includes) = is_some install
@@ -60,15 +64,18 @@ has_install other = false
 
 -- a name is that of a module with `@InstallIn`; a test module has none
 abbrev pub may_be_replaced : Doc → Bytes → Bool
-may_be_replaced doc n = unwrap_or (option_map has_install (option_and_then (item_at doc) (module_named doc n))) false
+may_be_replaced doc n =
+    unwrap_or (option_map has_install (option_and_then (item_at doc) (module_named doc n))) false
 
 -- a test module replaces a module that isn't installed by an annotation
 unfoldable pub bad_replace : Doc → Statement → List Violation
-bad_replace doc s = map (at_line rule.BadReplace s) (filter (λ n. not (may_be_replaced doc n)) (replaces_in s.item))
+bad_replace doc s =
+    map (at_line rule.BadReplace s) (filter (λ n. not (may_be_replaced doc n)) (replaces_in s.item))
 
 -- what a statement breaks, by rule
 abbrev pub components_at : Doc → Statement → List Violation
-components_at doc s = parent_cycle doc s ++ ancestor_scope doc s ++ duplicate_entry doc s ++ bad_replace doc s
+components_at doc s =
+    parent_cycle doc s ++ ancestor_scope doc s ++ duplicate_entry doc s ++ bad_replace doc s
 
 -- the stage: what the statements break, by line
 unfoldable pub components_stage : Doc → List Violation

@@ -38,7 +38,8 @@ leads_back doc c n = list_any (λ d. is_below doc d c) (option_to_list (class_na
 
 -- a component has a parent, names a dependency again, or depends on a class that stands on it
 abbrev pub is_bad_dependency : Doc → ℕ → ℕ → Bytes → Bool
-is_bad_dependency doc c index n = is_some (parent_of doc c) || is_named_earlier doc c index n || leads_back doc c n
+is_bad_dependency doc c index n =
+    is_some (parent_of doc c) || is_named_earlier doc c index n || leads_back doc c n
 
 -- a `dependsOn` line names a class on which its component may not depend
 unfoldable pub bad_depends_on : Doc → Statement → List Violation
