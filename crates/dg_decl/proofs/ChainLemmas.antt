@@ -1,11 +1,11 @@
 -- The walk of parents from a class that meets no cycle ends within as many steps as there are classes.
-use Rattle.std.proofs.Common.{◌≡◌, ◌⊎◌, inl, inr, IsTrue, ℕ, zero, suc, ◌+◌, ◌<◌, ◌≤◌, Bool, true, false, not, ◌||◌, nat_eq, List, [], ◌∷◌, length, Contains, Option, Some, None, option_to_list, refl, sym, ap, subst, ◌∙◌, arith}
+use Rattle.std.proofs.Common.{◌≡◌, inl, inr, IsTrue, ℕ, zero, suc, ◌<◌, ◌≤◌, Bool, true, false, not, nat_eq, List, [], ◌∷◌, Contains, Option, Some, None, option_to_list, refl, sym, ap, subst, ◌∙◌, arith}
 use Rattle.std.specs.List.{list_any}
 use Rattle.std.proofs.lemmas.Bool.{false≢true, or_cases, or_left, or_right}
 use Rattle.dg_decl.specs.declared.document.Doc.{Doc}
-use Rattle.dg_decl.specs.Walks.{IsReached, root, step, is_within}
+use Rattle.dg_decl.specs.Walks.{IsReached, root, step}
 use Rattle.dg_decl.specs.Components.{class_count, parent_of, walk, ancestors, chain, is_own_ancestor, parents, AncestorsAreWalks, IsChain, at_root, under, has_root, ChainsAreWhole}
-use Rattle.dg_decl.proofs.WalkLemmas.{any_from, any_is, is_any, walked, at_once, reached_beyond, walked_reaches, reaches_walked, reaches_sooner, count_below, at_most_all, counts_one, grows, Passes, LeadsBelow}
+use Rattle.dg_decl.proofs.WalkLemmas.{any_from, any_is, is_any, walked, at_once, reached_beyond, walked_reaches, reaches_walked, reaches_sooner, count_below, at_most_all, counts_one, grows, LeadsBelow}
 use Rattle.dg_decl.proofs.NumberBounds.{below_of_each, each_option}
 use Rattle.dg_decl.proofs.ComponentLemmas.{parent_below}
 

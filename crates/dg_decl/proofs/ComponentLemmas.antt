@@ -1,18 +1,16 @@
 -- Where the walks of modules and of component classes lead.
-use Rattle.std.proofs.Common.{◌≡◌, ◌↔◌, IsTrue, ℕ, zero, suc, ◌+◌, ◌<◌, ◌≤◌, Bool, true, false, cond, not, nat_lt, List, [], ◌∷◌, ◌++◌, length, Contains, Option, Some, None, option_map, option_and_then, option_to_list, slice_get, find, filter_map, position, bytes_eq, refl, sym, ap, ◌∙◌, arith}
-use Rattle.std.proofs.lemmas.Bool.{ltb-true, false≢true}
+use Rattle.std.proofs.Common.{◌≡◌, ℕ, zero, suc, ◌+◌, ◌<◌, Bool, true, false, cond, not, nat_lt, List, [], ◌∷◌, length, Option, Some, None, option_map, option_and_then, option_to_list, slice_get, find, bytes_eq, refl, arith}
+use Rattle.std.proofs.lemmas.Bool.{ltb-true}
 use Rattle.dg_lex.specs.Bytes.{Bytes, is_among}
 use Rattle.dg_hilt.specs.Names.{predefined_names}
 use Rattle.dg_hilt.specs.Table.{HiltRow, hilt_classes}
 use Rattle.dg_decl.specs.declared.document.Doc.{Doc}
-use Rattle.dg_decl.specs.declared.item.Item.{Item}
 use Rattle.dg_decl.specs.Document.{Statement, statements}
-use Rattle.dg_decl.specs.Walks.{IsReached}
-use Rattle.dg_decl.specs.Names.{outer_name, is_called, declared, is_module, module_named, item_at}
-use Rattle.dg_decl.specs.Components.{hilt_count, hilt_row, component_headers, class_count, number_of_header, class_named, header_item, parent_in, parent_of, is_replaced, includes_in, seeds, included, Reached, is_reached, ReachedByShortWalks, own_members, dependency_in, deps_of}
-use Rattle.dg_decl.specs.Stages.Dependencies.{stands_on, StandsOn, is_below, BelowByShortWalks}
+use Rattle.dg_decl.specs.Names.{outer_name, is_called, declared, is_module, module_named}
+use Rattle.dg_decl.specs.Components.{hilt_count, component_headers, class_count, number_of_header, class_named, parent_of, is_replaced, seeds, included, is_reached, ReachedByShortWalks, own_members, dependency_in, deps_of}
+use Rattle.dg_decl.specs.Stages.Dependencies.{stands_on, is_below, BelowByShortWalks}
 use Rattle.dg_decl.proofs.WalkLemmas.{LeadsBelow, walks_within}
-use Rattle.dg_decl.proofs.NumberBounds.{none_is_not_some, same_value, EachBelow, below_of_each, each_filter, each_filter_map, each_append, each_option, below_and_then, below_or, position_below, statements_below, found_below}
+use Rattle.dg_decl.proofs.NumberBounds.{none_is_not_some, same_value, below_of_each, each_filter, each_filter_map, each_append, each_option, below_and_then, below_or, position_below, statements_below, found_below}
 
 -- ---- modules
 

@@ -1,6 +1,6 @@
 -- Words for small documents in examples.
 use denote.Hole.Carrier.{out, shown, hidden}
-use Rattle.std.specs.Prelude.{ℕ, zero, true, List, [], ◌∷◌, length, Option, Some, None, codes}
+use Rattle.std.specs.Prelude.{ℕ, zero, true, List, [], length, Option, Some, None, codes}
 use Rattle.std.specs.List.{range_with_len}
 use Rattle.dg_lex.specs.Bytes.{Bytes}
 use Rattle.dg_types.specs.declared.shape.Shape as shapes
@@ -9,7 +9,6 @@ use Rattle.dg_types.specs.declared.shape.Shape.{Shape}
 use Rattle.dg_types.specs.declared.shape.Shape.TheVariants as shape
 use Rattle.dg_types.specs.declared.shape.TypeUse.{TypeUse}
 use Rattle.dg_types.specs.declared.key.Key.{Key}
-use Rattle.dg_types.specs.declared.key.Base.{Base}
 use Rattle.dg_types.specs.declared.key.Base.TheVariants as base
 use Rattle.dg_types.specs.declared.key.Core.{Core}
 use Rattle.dg_types.specs.declared.key.Core.TheVariants as core

@@ -1,8 +1,10 @@
 -- Small documents that decide what a component class finds. Hilt's classes have the numbers 0 to 7, and the components of
 -- a document have those from 8 on. Items are counted from 0, lines from 1.
 use Rattle.std.proofs.Common.{◌≡◌, refl}
-use Rattle.std.specs.Prelude.{true, false, [], ◌∷◌, Some, None, codes, pos}
+use Rattle.std.specs.Prelude.{false, [], ◌∷◌, Some, None, codes, pos}
 use Rattle.dg_types.specs.declared.shape.Shape.TheVariants as shape
+use Rattle.dg_types.specs.declared.shape.Qualifier.{Qualifier}
+use Rattle.dg_types.specs.declared.shape.TypeUse.{TypeUse}
 use Rattle.dg_types.specs.declared.key.Key.{Key}
 use Rattle.dg_types.specs.declared.key.Base.TheVariants as base
 use Rattle.dg_types.specs.declared.key.Core.TheVariants as core
@@ -11,6 +13,7 @@ use Rattle.dg_types.specs.declared.key.Inner.TheVariants as inner
 use Rattle.dg_types.specs.declared.key.MapKind.TheVariants as map_kind
 use Rattle.dg_types.specs.declared.key.MapKeyVal.TheVariants as map_key
 use Rattle.dg_decl.specs.declared.document.Doc.{Doc}
+use Rattle.dg_decl.specs.declared.expression.Expr.TheVariants as expr
 use Rattle.dg_decl.specs.declared.item.Mark.TheVariants as mark
 use Rattle.dg_decl.specs.declared.item.Item.TheVariants as item
 use Rattle.dg_decl.specs.declared.binding.BindRef.TheVariants as ref
@@ -22,6 +25,12 @@ use Rattle.dg_decl.proofs.ExampleWords.{looks_up, doc_of, bare_use, key_of, text
 -- a map from integers to texts
 abbrev number_map : Inner → Key
 number_map i = key_of (core.Map map_kind.Int base.Text i)
+
+abbrev named : Qualifier
+named = record { name = codes "Named"; member = Some (codes "x") }
+
+abbrev named_text : TypeUse
+named_text = record { qualifier = Some named; shape = shape.Text }
 
 -- a parent and a child bind one key
 abbrev parent_and_child : Doc
@@ -160,7 +169,7 @@ unfolding looks_up
 an_unscoped_class_is_owned_by_who_asks = refl
 
 pub a_qualified_key_is_bound_by_no_class :
-    find scoped 9 (record { qualifier = Some (record { name = codes "Named"; member = Some (codes "x") }); core = core.One (base.Named (codes "Free")) }) ≡ found.Nothing
+    find scoped 9 (record { qualifier = Some named; core = core.One (base.Named (codes "Free")) }) ≡ found.Nothing
 unfolding looks_up
 a_qualified_key_is_bound_by_no_class = refl
 
@@ -383,3 +392,65 @@ pub a_default_binding_of_a_sibling_is_not_there :
     find defaults 4 (class_key (codes "View")) ≡ found.Nothing
 unfolding looks_up
 a_default_binding_of_a_sibling_is_not_there = refl
+
+-- a set with an element, elements and a qualified element
+abbrev elements : Doc
+elements =
+    doc_of (module_line (codes "M")
+    ∷ element_line (codes "a")
+    ∷ item.Provides (Some mark.ElementsIntoSet) None (codes "b") [] (bare_use (shape.Set shape.Text)) (expr.Text (codes "x"))
+    ∷ item.Provides (Some mark.IntoSet) None (codes "c") [] named_text (expr.Text (codes "x"))
+    ∷ text_line None (codes "d")
+    ∷ item.End
+    ∷ component_line (codes "App") (codes "M" ∷ [])
+    ∷ item.End
+    ∷ [])
+
+pub elements_of_both_kinds :
+    find elements 8 (text_set inner.Plain) ≡ found.SetOf (owned 8 (ref.Member 1) ∷ owned 8 (ref.Member 2) ∷ [])
+unfolding looks_up
+elements_of_both_kinds = refl
+
+pub a_qualified_element_is_of_the_qualified_set :
+    find elements 8 (record { qualifier = Some named; core = core.Set base.Text inner.Plain }) ≡ found.SetOf (owned 8 (ref.Member 3) ∷ [])
+unfolding looks_up
+a_qualified_element_is_of_the_qualified_set = refl
+
+pub an_element_is_no_binding_of_its_type :
+    find elements 8 text_key ≡ found.One 8 (ref.Member 4)
+unfolding looks_up
+an_element_is_no_binding_of_its_type = refl
+
+pub no_element_is_bound_by_itself :
+    find two_and_three 9 text_key ≡ found.Nothing
+unfolding looks_up
+no_element_is_bound_by_itself = refl
+
+-- a class with an injected constructor is bound explicitly
+abbrev overridden : Doc
+overridden =
+    doc_of (inject_line None (codes "Db")
+    ∷ module_line (codes "M")
+    ∷ item.Binds None None (codes "b") (record { name = codes "p"; shape = class_use (codes "Db") }) (class_use (codes "Db"))
+    ∷ item.End
+    ∷ component_line (codes "App") (codes "M" ∷ [])
+    ∷ item.End
+    ∷ component_line (codes "Other") []
+    ∷ item.End
+    ∷ item.Class false None (codes "Plain") [] []
+    ∷ [])
+
+pub an_explicit_binding_is_used_in_its_place :
+    find overridden 8 (class_key (codes "Db")) ≡ found.One 8 (ref.Member 2)
+unfolding looks_up
+an_explicit_binding_is_used_in_its_place = refl
+
+pub another_component_injects_the_class :
+    find overridden 9 (class_key (codes "Db")) ≡ found.One 9 (ref.ClassItem 0)
+unfolding looks_up
+another_component_injects_the_class = refl
+
+pub a_class_without_an_injected_constructor_is_not_bound :
+    find overridden 8 (class_key (codes "Plain")) ≡ found.Nothing
+unfolding looks_up
+a_class_without_an_injected_constructor_is_not_bound = refl

@@ -1,7 +1,8 @@
 pub mod ExampleWords
 pub mod ExamplesLookup
 pub mod ExamplesComponents
-mod WalkLemmas
-mod NumberBounds
+pub mod WalkLemmas
+pub mod NumberBounds
 pub mod ComponentLemmas
 pub mod ChainLemmas
+pub mod ExamplesNames
