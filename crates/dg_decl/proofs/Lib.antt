@@ -6,3 +6,4 @@ pub mod NumberBounds
 pub mod ComponentLemmas
 pub mod ChainLemmas
 pub mod ExamplesNames
+pub mod HeaderLemmas

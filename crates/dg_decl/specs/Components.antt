@@ -67,6 +67,11 @@ unfoldable pub header_of : Doc → ℕ → Option Statement
 header_of doc c =
     if nat_lt c hilt_count then None else slice_get (component_headers doc) (c - hilt_count)
 
+-- the header of a class has the number of the class
+abbrev pub HeadersHaveTheirNumbers : Type 0
+HeadersHaveTheirNumbers =
+    (doc : Doc) (c : ℕ) (h : Statement) → header_of doc c ≡ Some h → number_of_header doc h ≡ Some c
+
 -- the item of the header of a class
 abbrev pub header_item : Doc → ℕ → Option Item
 header_item doc c = option_map (λ h. h.item) (header_of doc c)

@@ -1,6 +1,7 @@
 //! The laws of component classes: where a definition walks at most so many steps, more steps come to nothing new.
 
-ghost use Rattle.dg_decl.specs.Components.{AncestorsAreWalks, ChainsAreWhole, ReachedByShortWalks};
+ghost use Rattle.dg_decl.specs.Components.{AncestorsAreWalks, ChainsAreWhole, HeadersHaveTheirNumbers, ReachedByShortWalks};
+ghost use Rattle.dg_decl.specs.Stages.Components.{ChainsEndAtRoots};
 ghost use Rattle.dg_decl.specs.Stages.Dependencies.{BelowByShortWalks};
 
 /// A walk of `includes`, of any length, leads from a seed of a class to a module exactly where one of at most as many
@@ -25,4 +26,15 @@ pub fn ancestors_are_walks()
 /// parent.
 pub fn chains_are_whole()
     ensures exact { ChainsAreWhole }
+{}
+
+/// Where the stage of components finds nothing, the chain of each class ends at a class without a parent.
+pub fn chains_end_at_roots()
+    ensures exact { ChainsEndAtRoots }
+{}
+
+/// The header of a component class has the number of the class: the numbers of classes and their headers name one
+/// another.
+pub fn headers_have_their_numbers()
+    ensures exact { HeadersHaveTheirNumbers }
 {}

@@ -14,7 +14,8 @@ mod violation;
 pub use binding::{Bind, BindKind, BindRef, Found, Owned};
 pub use component::{Bound, Class, CompTree, Exposed};
 pub use components_laws::{
-    ancestors_are_walks, below_by_short_walks, chains_are_whole, reached_by_short_walks,
+    ancestors_are_walks, below_by_short_walks, chains_are_whole, chains_end_at_roots,
+    headers_have_their_numbers, reached_by_short_walks,
 };
 pub use document::{Doc, LineMeaning};
 pub use expression::{CallName, Cond, Expr, ParamCall, Tree};

@@ -1,5 +1,5 @@
 -- The rules on component classes that hold before any of their bindings is looked up.
-use Rattle.std.specs.Prelude.{ℕ, nat_lt, Bool, false, not, ◌&&◌, List, ◌++◌, map, Option, Some, None, is_some, option_map, option_and_then, option_to_list, unwrap_or}
+use Rattle.std.specs.Prelude.{◌≡◌, [], ℕ, nat_lt, Bool, false, not, ◌&&◌, List, ◌++◌, map, Option, Some, None, is_some, option_map, option_and_then, option_to_list, unwrap_or}
 use Rattle.std.specs.List.{filter, flat_map, list_any}
 use Rattle.dg_lex.specs.Bytes.{Bytes}
 use Rattle.dg_decl.specs.declared.document.Doc.{Doc}
@@ -11,7 +11,7 @@ use Rattle.dg_decl.specs.declared.violation.Violation.{Violation}
 use Rattle.dg_decl.specs.Document.{Statement, statements}
 use Rattle.dg_decl.specs.Sites.{site_of_line}
 use Rattle.dg_decl.specs.Names.{is_called, module_named, item_at}
-use Rattle.dg_decl.specs.Components.{number_of_header, class_name, ancestors, has_root, is_own_ancestor, scopes_in, carries, replaces_in, is_entry_of, class_around}
+use Rattle.dg_decl.specs.Components.{number_of_header, class_name, ancestors, chain, IsChain, has_root, is_own_ancestor, scopes_in, carries, replaces_in, is_entry_of, class_around}
 
 -- a rule that a line breaks by a name
 abbrev pub at_line : Rule → Statement → Bytes → Violation
@@ -80,3 +80,7 @@ components_at doc s =
 -- the stage: what the statements break, by line
 unfoldable pub components_stage : Doc → List Violation
 components_stage doc = flat_map (components_at doc) (statements doc)
+
+-- where the stage is empty, the chain of each class is its whole walk of parents
+abbrev pub ChainsEndAtRoots : Type 0
+ChainsEndAtRoots = (doc : Doc) → components_stage doc ≡ [] → (c : ℕ) → IsChain doc c (chain doc c)
