@@ -52,7 +52,7 @@ pub(crate) fn component_numbers(
 
 /// The nodes in the order in which a search in depth leaves them. So an edge from one of the first nodes leads
 /// to one of them, or back to a node from which a walk leads to the last of them.
-fn finishing_order(alloc: Global, graph: &Graph) -> Result<Vec<u32>, NoMemory>
+pub(crate) fn finishing_order(alloc: Global, graph: &Graph) -> Result<Vec<u32>, NoMemory>
     requires { IsSound graph.now }
     ensures nodes { IfOk result (λ order. All (λ node. node < node_count graph.now) order.items) }
     ensures each { IfOk result (λ order. (node : ℕ) → node < node_count graph.now
