@@ -1,0 +1,3 @@
+-- The stages of the check, each a list of rules.
+pub mod Components
+pub mod Dependencies
