@@ -1,3 +1,5 @@
 -- The stages of the check, each a list of rules.
 pub mod Components
 pub mod Dependencies
+pub mod Bindings
+pub mod Sizes
