@@ -8,3 +8,5 @@ pub mod Stages
 pub mod Bodies
 pub mod Graph
 pub mod Sizes
+pub mod Typing
+pub mod Diagnostics
