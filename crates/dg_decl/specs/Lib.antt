@@ -5,3 +5,8 @@ pub mod Names
 pub mod Components
 pub mod Lookup
 pub mod Stages
+pub mod Bodies
+pub mod Graph
+pub mod Sizes
+pub mod Typing
+pub mod Diagnostics
