@@ -409,12 +409,12 @@ OnCall doc n =
     (m t : Node) × IsReached (needed_targets doc) (n ∷ []) m × Contains (called_targets doc m) t
     × IsReached (needed_targets doc) (t ∷ []) n
 
--- the same, by walks of no more steps than there are nodes
+-- the same, by walks of no more steps than there are candidates
 unfoldable pub is_on_cycle : Doc → Node → Bool
-is_on_cycle doc n = is_within same_node (direct_targets doc) (length (nodes doc)) (direct_targets doc n) n
+is_on_cycle doc n = is_within same_node (direct_targets doc) (length (candidates doc)) (direct_targets doc n) n
 
 unfoldable pub is_on_call : Doc → Node → Bool
-is_on_call doc n = list_any (λ m. leads (n ∷ []) m && list_any (λ t. leads (t ∷ []) n) (called_targets doc m)) (nodes doc)
+is_on_call doc n = list_any (λ m. leads (n ∷ []) m && list_any (λ t. leads (t ∷ []) n) (called_targets doc m)) (candidates doc)
   where
     leads : List Node → Node → Bool
-    leads = is_within same_node (needed_targets doc) (length (nodes doc))
+    leads = is_within same_node (needed_targets doc) (length (candidates doc))

@@ -19,7 +19,7 @@ use Rattle.dg_num.specs.Weights.{weight_within}
 use Rattle.dg_decl.specs.Walks.{IsReached, is_within}
 use Rattle.dg_decl.specs.Names.{item_at}
 use Rattle.dg_decl.specs.Bodies.{size_of_expr, size_of_tree}
-use Rattle.dg_decl.specs.Graph.{EdgeTo, edges, is_direct, is_called, inner_of, same_node, nodes, targets, needed_targets}
+use Rattle.dg_decl.specs.Graph.{EdgeTo, edges, is_direct, is_called, inner_of, same_node, candidates, targets, needed_targets}
 
 -- ---- the item of a node
 
@@ -90,10 +90,11 @@ passed_on doc n = of_kind n.kind
 abbrev pub IsProduction : Doc → Node → Type 0
 IsProduction doc n = (m : Node) × IsReached (passed_on doc) (n ∷ []) m × (is_producer doc m ≡ true)
 
--- the same, by walks of no more steps than there are nodes
+-- the same, by walks of no more steps than there are candidates
 unfoldable pub is_production : Doc → Node → Bool
 is_production doc n =
-    list_any (λ m. is_producer doc m && is_within same_node (passed_on doc) (length (nodes doc)) (n ∷ []) m) (nodes doc)
+    list_any (λ m. is_producer doc m && is_within same_node (passed_on doc) (length (candidates doc)) (n ∷ []) m)
+    (candidates doc)
 
 -- ---- depth: the number of nodes on the longest walk of direct and called edges
 
@@ -103,7 +104,7 @@ depth_within doc zero n = 0
 depth_within doc (suc most) n = suc (fold max 0 (map (depth_within doc most) (needed_targets doc n)))
 
 unfoldable pub depth : Doc → Node → ℕ
-depth doc n = depth_within doc (length (nodes doc)) n
+depth doc n = depth_within doc (length (candidates doc)) n
 
 -- the law of depths: a walk of this many nodes begins at the node, and none that begins there has more
 abbrev pub IsDepth : Doc → Node → ℕ → Type 0
@@ -126,7 +127,7 @@ size doc n = option_map_or size_of_item (item_of_node doc n) 1
 unfoldable pub is_shared : Doc → Node → Bool
 is_shared doc n = is_some (scope_of doc n) || is_producer doc n || is_bound_instance n
 
--- The sizes of the bodies that one evaluation of a node goes through, by walks of no more nodes than the document has:
--- its own, and for each direct or called edge the weight of its target, or 1 where that is shared.
+-- The sizes of the bodies that one evaluation of a node goes through, by walks of no more nodes than there are
+-- candidates: its own, and for each direct or called edge the weight of its target, or 1 where that is shared.
 unfoldable pub weight : Doc → Node → ℕ
-weight doc n = weight_within (needed_targets doc) (size doc) (is_shared doc) (length (nodes doc)) n
+weight doc n = weight_within (needed_targets doc) (size doc) (is_shared doc) (length (candidates doc)) n
