@@ -3,4 +3,6 @@
 
 mod class;
 
-pub use class::{HiltClass, HiltDefault, class_of, default_of, parent, scope_name};
+pub use class::{
+    HiltClass, HiltDefault, class_at, class_name, class_of, default_of, number, parent, scope_name,
+};

@@ -14,8 +14,9 @@ use Rattle.dg_types.specs.declared.key.Mode.{Mode}
 use Rattle.dg_types.specs.declared.key.Mode.TheVariants as mode
 use Rattle.dg_types.specs.declared.key.Key.{Key}
 use Rattle.dg_types.specs.declared.key.Request.{Request}
-use Rattle.dg_types.specs.declared.shape.Shape.{Shape, out-Shape, roll-Shape}
+use Rattle.dg_types.specs.declared.shape.Shape.{Shape, out-Shape}
 use Rattle.dg_types.specs.declared.shape.Shape.TheOpen.{Shape-F}
+use Rattle.dg_types.specs.declared.shape.Shape.TheVariants as shape
 use Rattle.dg_types.specs.declared.shape.TypeUse.{TypeUse}
 
 -- a type as its outermost constructor with its parts
@@ -170,35 +171,35 @@ request_of u = option_map (λ a. record { mode = a.0; key = record { qualifier =
 -- ---- the type that a request is written as
 
 abbrev pub shape_of_base : Base → Shape
-shape_of_base base.Text = roll-Shape Shape-F.Text
-shape_of_base base.Int = roll-Shape Shape-F.Int
-shape_of_base (base.Named name) = roll-Shape (Shape-F.Named name)
+shape_of_base base.Text = shape.Text
+shape_of_base base.Int = shape.Int
+shape_of_base (base.Named name) = shape.Named name
 
 abbrev pub shape_of_kind : MapKind → Shape
-shape_of_kind kind.Text = roll-Shape Shape-F.Text
-shape_of_kind kind.Int = roll-Shape Shape-F.Int
+shape_of_kind kind.Text = shape.Text
+shape_of_kind kind.Int = shape.Int
 
 abbrev pub shape_in : Inner → Shape → Shape
 shape_in inner.Plain s = s
-shape_in inner.Provider s = roll-Shape (Shape-F.Provider s)
-shape_in inner.Lazy s = roll-Shape (Shape-F.Lazy s)
-shape_in inner.ProviderLazy s = roll-Shape (Shape-F.Provider (roll-Shape (Shape-F.Lazy s)))
-shape_in inner.Produced s = roll-Shape (Shape-F.Produced s)
+shape_in inner.Provider s = shape.Provider s
+shape_in inner.Lazy s = shape.Lazy s
+shape_in inner.ProviderLazy s = shape.Provider (shape.Lazy s)
+shape_in inner.Produced s = shape.Produced s
 
 -- the type that a core type is written as
 unfoldable pub shape_of_core : Core → Shape
 shape_of_core (core.One b) = shape_of_base b
-shape_of_core (core.Set b i) = roll-Shape (Shape-F.Set (shape_in i (shape_of_base b)))
-shape_of_core (core.Map k b i) = roll-Shape (Shape-F.Map (shape_of_kind k) (shape_in i (shape_of_base b)))
-shape_of_core (core.Optional b i) = roll-Shape (Shape-F.Optional (shape_in i (shape_of_base b)))
+shape_of_core (core.Set b i) = shape.Set (shape_in i (shape_of_base b))
+shape_of_core (core.Map k b i) = shape.Map (shape_of_kind k) (shape_in i (shape_of_base b))
+shape_of_core (core.Optional b i) = shape.Optional (shape_in i (shape_of_base b))
 
 abbrev pub shape_asked : Mode → Shape → Shape
 shape_asked mode.Instance s = s
-shape_asked mode.Provider s = roll-Shape (Shape-F.Provider s)
-shape_asked mode.Lazy s = roll-Shape (Shape-F.Lazy s)
-shape_asked mode.ProviderLazy s = roll-Shape (Shape-F.Provider (roll-Shape (Shape-F.Lazy s)))
-shape_asked mode.Produced s = roll-Shape (Shape-F.Produced s)
-shape_asked mode.Producer s = roll-Shape (Shape-F.Producer s)
+shape_asked mode.Provider s = shape.Provider s
+shape_asked mode.Lazy s = shape.Lazy s
+shape_asked mode.ProviderLazy s = shape.Provider (shape.Lazy s)
+shape_asked mode.Produced s = shape.Produced s
+shape_asked mode.Producer s = shape.Producer s
 
 -- the type of a parameter that makes this request
 unfoldable pub use_of : Request → TypeUse

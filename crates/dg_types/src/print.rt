@@ -138,7 +138,7 @@ pub fn push_use_text(out: &mut Vec<u8>, asked: &TypeUse) -> Result<(), NoMemory>
     push_shape_text(out, &asked.shape)
 }
 
-#[tactic(auto, unfolding(crate::specs::Texts::shape_text))]
+#[tactic(auto, using(crate::proofs::ShapeLemmas::shape_texts))]
 fn push_base(out: &mut Vec<u8>, base: &Base) -> Result<(), NoMemory>
     ensures exact { OnOk result (out.new.items ≡ out.old.items ++ spec.shape_text (shape_of_base base.now)) }
 {
@@ -149,7 +149,7 @@ fn push_base(out: &mut Vec<u8>, base: &Base) -> Result<(), NoMemory>
     }
 }
 
-#[tactic(auto, unfolding(crate::specs::Texts::shape_text))]
+#[tactic(auto, using(crate::proofs::ShapeLemmas::shape_texts))]
 fn push_kind(out: &mut Vec<u8>, kind: MapKind) -> Result<(), NoMemory>
     ensures exact { OnOk result (out.new.items ≡ out.old.items ++ spec.shape_text (shape_of_kind kind)) }
 {
@@ -159,57 +159,62 @@ fn push_kind(out: &mut Vec<u8>, kind: MapKind) -> Result<(), NoMemory>
     }
 }
 
-#[tactic(auto, unfolding(crate::specs::Texts::shape_text))]
-fn push_held(out: &mut Vec<u8>, base: &Base, form: Inner) -> Result<(), NoMemory>
-    ensures exact { OnOk result (out.new.items ≡ out.old.items ++ spec.shape_text (shape_in form (shape_of_base base.now))) }
+/// Writes the type that a constructor makes of a base type.
+fn push_applied(out: &mut Vec<u8>, constructor: &[u8], base: &Base) -> Result<(), NoMemory>
+    ensures exact { OnOk result (out.new.items ≡ out.old.items ++ spec.applied constructor.now (spec.shape_text (shape_of_base base.now))) }
 {
-    match form {
-        Inner::Plain => return push_base(out, base),
-        Inner::Provider => {
-            out.extend_from_slice(b"Provider<")?;
-            push_base(out, base)?;
-        }
-        Inner::Lazy => {
-            out.extend_from_slice(b"Lazy<")?;
-            push_base(out, base)?;
-        }
-        Inner::ProviderLazy => {
-            out.extend_from_slice(b"Provider<Lazy<")?;
-            push_base(out, base)?;
-            out.push(b'>')?;
-        }
-        Inner::Produced => {
-            out.extend_from_slice(b"Produced<")?;
-            push_base(out, base)?;
-        }
-    }
+    out.extend_from_slice(constructor)?;
+    out.push(b'<')?;
+    push_base(out, base)?;
     out.push(b'>')?;
     Ok(())
 }
 
-#[tactic(auto, unfolding(crate::specs::Texts::shape_text, crate::specs::Requests::shape_of_core))]
+#[tactic(auto, using(crate::proofs::ShapeLemmas::shape_texts))]
+fn push_held(out: &mut Vec<u8>, base: &Base, form: Inner) -> Result<(), NoMemory>
+    ensures exact { OnOk result (out.new.items ≡ out.old.items ++ spec.shape_text (shape_in form (shape_of_base base.now))) }
+{
+    match form {
+        Inner::Plain => push_base(out, base),
+        Inner::Provider => push_applied(out, b"Provider", base),
+        Inner::Lazy => push_applied(out, b"Lazy", base),
+        Inner::ProviderLazy => {
+            out.extend_from_slice(b"Provider<")?;
+            push_applied(out, b"Lazy", base)?;
+            out.push(b'>')?;
+            Ok(())
+        }
+        Inner::Produced => push_applied(out, b"Produced", base),
+    }
+}
+
+#[tactic(auto, using(crate::proofs::ShapeLemmas::shape_texts), unfolding(crate::specs::Requests::shape_of_core))]
 fn push_core(out: &mut Vec<u8>, core: &Core) -> Result<(), NoMemory>
     ensures exact { OnOk result (out.new.items ≡ out.old.items ++ spec.shape_text (shape_of_core core.now)) }
 {
     match core {
-        Core::One(base) => return push_base(out, base),
+        Core::One(base) => push_base(out, base),
         Core::Set(base, form) => {
             out.extend_from_slice(b"Set<")?;
             push_held(out, base, *form)?;
+            out.push(b'>')?;
+            Ok(())
         }
         Core::Map(kind, base, form) => {
             out.extend_from_slice(b"Map<")?;
             push_kind(out, *kind)?;
             out.push(b',')?;
             push_held(out, base, *form)?;
+            out.push(b'>')?;
+            Ok(())
         }
         Core::Optional(base, form) => {
             out.extend_from_slice(b"Optional<")?;
             push_held(out, base, *form)?;
+            out.push(b'>')?;
+            Ok(())
         }
     }
-    out.push(b'>')?;
-    Ok(())
 }
 
 /// Writes a key behind `out`, as `key_text` does. After a refusal a part may stand there.
