@@ -1,0 +1,71 @@
+ghost use Rattle.std.specs.Prelude.{◌≡◌, ◌↔◌, IsTrue};
+ghost use Rattle.dg_types.specs.Equality as spec;
+
+use crate::key::{Base, Core, Key, MapKeyVal, Request};
+use crate::shape::{Qualifier, Shape, TypeUse};
+
+impl Base {
+    /// Whether the two are one type.
+    #[tactic(auto, using(crate::proofs::EqualityLemmas::base_decides), unfolding(crate::specs::Equality::same_base))]
+    pub fn is(&self, other: &Base) -> bool
+        ensures exact { IsTrue result ↔ (self.now ≡ other.now) }
+        ensures test { result ≡ spec.same_base self.now other.now }
+    {
+        self == other
+    }
+}
+
+impl Qualifier {
+    /// Whether the two have one name, and one member or none.
+    #[tactic(auto, using(crate::proofs::EqualityLemmas::qualifier_decides), unfolding(crate::specs::Equality::same_qualifier))]
+    pub fn is(&self, other: &Qualifier) -> bool
+        ensures exact { IsTrue result ↔ (self.now ≡ other.now) }
+        ensures test { result ≡ spec.same_qualifier self.now other.now }
+    {
+        self == other
+    }
+}
+
+impl Core {
+    /// Whether the two are one type.
+    #[tactic(auto, using(crate::proofs::EqualityLemmas::core_decides), unfolding(crate::specs::Equality::same_core))]
+    pub fn is(&self, other: &Core) -> bool
+        ensures exact { IsTrue result ↔ (self.now ≡ other.now) }
+        ensures test { result ≡ spec.same_core self.now other.now }
+    {
+        self == other
+    }
+}
+
+impl Key {
+    /// Whether the two have one type, and one qualifier or none.
+    #[tactic(auto, using(crate::proofs::EqualityLemmas::key_decides), unfolding(crate::specs::Equality::same_key))]
+    pub fn is(&self, other: &Key) -> bool
+        ensures exact { IsTrue result ↔ (self.now ≡ other.now) }
+        ensures test { result ≡ spec.same_key self.now other.now }
+    {
+        self == other
+    }
+}
+
+impl Request {
+    /// Whether the two ask for one key in one form.
+    #[tactic(auto, using(crate::proofs::EqualityLemmas::request_decides), unfolding(crate::specs::Equality::same_request))]
+    pub fn is(&self, other: &Request) -> bool
+        ensures exact { IsTrue result ↔ (self.now ≡ other.now) }
+        ensures test { result ≡ spec.same_request self.now other.now }
+    {
+        self == other
+    }
+}
+
+impl MapKeyVal {
+    /// Whether the two are equal texts or equal integers.
+    #[tactic(auto, using(crate::proofs::EqualityLemmas::map_key_decides), unfolding(crate::specs::Equality::same_map_key))]
+    pub fn is(&self, other: &MapKeyVal) -> bool
+        ensures exact { IsTrue result ↔ (self.now ≡ other.now) }
+        ensures test { result ≡ spec.same_map_key self.now other.now }
+    {
+        self == other
+    }
+}
