@@ -69,3 +69,24 @@ impl MapKeyVal {
         self == other
     }
 }
+
+impl Shape {
+    /// Whether the two are one type.
+    pub fn is(&self, other: &Shape) -> bool
+        ensures exact { IsTrue result ↔ (self.now ≡ other.now) }
+    {
+        match (self, other) {
+            (Shape::Text, Shape::Text) => true,
+            (Shape::Int, Shape::Int) => true,
+            (Shape::Named(a), Shape::Named(b)) => a == b,
+            (Shape::Set(a), Shape::Set(b)) => a.get().is(b.get()),
+            (Shape::Map(k, a), Shape::Map(l, b)) => k.get().is(l.get()) && a.get().is(b.get()),
+            (Shape::Optional(a), Shape::Optional(b)) => a.get().is(b.get()),
+            (Shape::Provider(a), Shape::Provider(b)) => a.get().is(b.get()),
+            (Shape::Lazy(a), Shape::Lazy(b)) => a.get().is(b.get()),
+            (Shape::Producer(a), Shape::Producer(b)) => a.get().is(b.get()),
+            (Shape::Produced(a), Shape::Produced(b)) => a.get().is(b.get()),
+            _ => false,
+        }
+    }
+}

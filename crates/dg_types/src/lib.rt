@@ -1,6 +1,7 @@
 //! Names, texts, types, keys and requests.
 #![tactic(auto)]
 
+mod copy;
 mod equality;
 mod key;
 mod memory;

@@ -1,10 +1,6 @@
-ghost use Rattle.std.specs.Prelude.{◌≡◌, ◌↔◌, IsTrue, IfOk};
-
-use crate::memory::NoMemory;
 use crate::name::Name;
 use crate::text::Text;
 use sqlite_items::Boxed;
-use std::alloc::Global;
 
 /// The type of a value, as a declaration spells it: any type that the grammar writes, whether or not it is allowed in
 /// its place. Types nest at most 4 deep in a document.
@@ -44,20 +40,4 @@ pub struct Qualifier {
 pub struct TypeUse {
     pub qualifier: Option<Qualifier>,
     pub shape: Shape,
-}
-
-impl Qualifier {
-    /// An equal qualifier.
-    pub fn copy(&self, alloc: Global) -> Result<Qualifier, NoMemory>
-        ensures exact { IfOk result (λ copy. copy ≡ self.now) }
-    {
-        let member = match &self.member {
-            None => None,
-            Some(text) => Some(text.copy(alloc)?),
-        };
-        Ok(Qualifier {
-            name: self.name.copy(alloc)?,
-            member,
-        })
-    }
 }
