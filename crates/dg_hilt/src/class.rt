@@ -156,3 +156,29 @@ pub fn default_of(c: HiltClass) -> Option<HiltDefault>
         }),
     }
 }
+
+/// The place of a name among the classes of the values that components have bound, each of which has one field, a text
+/// `name`: Application, Service, SavedStateHandle, Activity, Fragment and View in this order. None for any other name.
+pub fn default_class(name: &[u8]) -> Option<u32>
+    ensures exact { result ≡ spec.default_class_named name.now }
+{
+    if name == b"Application".as_slice() {
+        return Some(0);
+    }
+    if name == b"Service".as_slice() {
+        return Some(1);
+    }
+    if name == b"SavedStateHandle".as_slice() {
+        return Some(2);
+    }
+    if name == b"Activity".as_slice() {
+        return Some(3);
+    }
+    if name == b"Fragment".as_slice() {
+        return Some(4);
+    }
+    if name == b"View".as_slice() {
+        return Some(5);
+    }
+    None
+}

@@ -1,2 +1,3 @@
+mod Probe
 pub mod EqualityLemmas
 pub mod ShapeLemmas
