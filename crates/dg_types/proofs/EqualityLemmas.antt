@@ -31,10 +31,7 @@ use Rattle.dg_types.specs.declared.key.MapKeyVal.TheVariants as map_key
 use Rattle.dg_types.specs.declared.key.Mode.{Mode}
 use Rattle.dg_types.specs.declared.key.Request.{Request}
 use Rattle.dg_types.specs.declared.shape.Qualifier.{Qualifier}
-use Rattle.dg_types.specs.declared.shape.Shape.{Shape, out-Shape, roll-Shape}
-use Rattle.dg_types.specs.declared.shape.Shape.TheFolds.{fold-roll-Shape, ind-Shape}
-use Rattle.dg_types.specs.declared.shape.Shape.TheOpen.{Shape-F}
-use Rattle.dg_types.specs.Equality.{same_base, same_core, same_key, same_map_key, same_qualifier, same_request, same_shape}
+use Rattle.dg_types.specs.Equality.{same_base, same_core, same_key, same_map_key, same_qualifier, same_request}
 
 inner_same : (a b : Inner) → of_forms.ghosts.eq a b ≡ true → a ≡ b
 inner_same = same_true inner_type.the_type tt
@@ -126,10 +123,3 @@ map_key_same a b h = absurd (true≢false (sym h))
 pub map_key_decides : (a b : MapKeyVal) → Decides (same_map_key a b) (a ≡ b)
 unfolding same_map_key
 map_key_decides a b = (map_key_same a b, λ e. ap (same_map_key a) (sym e) ∙ map_key_laws.laws-law.refl a)
-
-abbrev IsSelfSame : Shape → Type 0
-IsSelfSame s = same_shape s s ≡ true
-
-shape_refl : (s : Shape) → IsSelfSame s
-unfolding same_shape
-shape_refl = ind-Shape IsSelfSame (λ x y is. ?)

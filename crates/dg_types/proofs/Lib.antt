@@ -1,3 +1,3 @@
-mod Probe
 pub mod EqualityLemmas
+pub mod ShapeEquality
 pub mod ShapeLemmas
