@@ -70,23 +70,59 @@ impl MapKeyVal {
     }
 }
 
+fn is_one(a: &Shape, b: &Shape) -> bool
+    ensures exact { IsTrue result ↔ (a.now ≡ b.now) }
+{
+    match (a, b) {
+        (Shape::Text, Shape::Text) => true,
+        (Shape::Int, Shape::Int) => true,
+        (Shape::Named(a), Shape::Named(b)) => a == b,
+        (Shape::Set(a), Shape::Set(b)) => is_one(a.get(), b.get()),
+        (Shape::Map(k, a), Shape::Map(l, b)) => is_one(k.get(), l.get()) && is_one(a.get(), b.get()),
+        (Shape::Optional(a), Shape::Optional(b)) => is_one(a.get(), b.get()),
+        (Shape::Provider(a), Shape::Provider(b)) => is_one(a.get(), b.get()),
+        (Shape::Lazy(a), Shape::Lazy(b)) => is_one(a.get(), b.get()),
+        (Shape::Producer(a), Shape::Producer(b)) => is_one(a.get(), b.get()),
+        (Shape::Produced(a), Shape::Produced(b)) => is_one(a.get(), b.get()),
+        _ => false,
+    }
+}
+
 impl Shape {
     /// Whether the two are one type.
     pub fn is(&self, other: &Shape) -> bool
         ensures exact { IsTrue result ↔ (self.now ≡ other.now) }
+        ensures test { result ≡ spec.same_shape self.now other.now }
     {
-        match (self, other) {
-            (Shape::Text, Shape::Text) => true,
-            (Shape::Int, Shape::Int) => true,
-            (Shape::Named(a), Shape::Named(b)) => a == b,
-            (Shape::Set(a), Shape::Set(b)) => a.get().is(b.get()),
-            (Shape::Map(k, a), Shape::Map(l, b)) => k.get().is(l.get()) && a.get().is(b.get()),
-            (Shape::Optional(a), Shape::Optional(b)) => a.get().is(b.get()),
-            (Shape::Provider(a), Shape::Provider(b)) => a.get().is(b.get()),
-            (Shape::Lazy(a), Shape::Lazy(b)) => a.get().is(b.get()),
-            (Shape::Producer(a), Shape::Producer(b)) => a.get().is(b.get()),
-            (Shape::Produced(a), Shape::Produced(b)) => a.get().is(b.get()),
-            _ => false,
-        }
+        is_one(self, other)
+    }
+}
+
+#[tactic(auto, using(crate::proofs::EqualityLemmas::qualifier_decides))]
+fn is_one_qualifier(a: &Option<Qualifier>, b: &Option<Qualifier>) -> bool
+    ensures exact { result ≡ spec.same_qualifiers a.now b.now }
+{
+    match (a, b) {
+        (None, None) => true,
+        (Some(a), Some(b)) => a.is(b),
+        _ => false,
+    }
+}
+
+#[tactic(auto, unfolding(crate::specs::Equality::same_use))]
+fn is_one_use(a: &TypeUse, b: &TypeUse) -> bool
+    ensures exact { result ≡ spec.same_use a.now b.now }
+{
+    is_one_qualifier(&a.qualifier, &b.qualifier) && a.shape.is(&b.shape)
+}
+
+impl TypeUse {
+    /// Whether the two are one type, with one qualifier or none.
+    #[tactic(auto, using(crate::proofs::ShapeEquality::use_decides))]
+    pub fn is(&self, other: &TypeUse) -> bool
+        ensures exact { IsTrue result ↔ (self.now ≡ other.now) }
+        ensures test { result ≡ spec.same_use self.now other.now }
+    {
+        is_one_use(self, other)
     }
 }

@@ -4,6 +4,7 @@
 mod copy;
 mod equality;
 mod key;
+mod laws;
 mod memory;
 mod name;
 mod print;
@@ -12,6 +13,7 @@ mod shape;
 mod text;
 
 pub use key::{Base, Core, Inner, Key, MapKeyVal, MapKind, Mode, Request};
+pub use laws::{requests_lose_nothing, tests_tell_equal};
 pub use memory::NoMemory;
 pub use name::Name;
 pub use print::{
