@@ -8,3 +8,4 @@ pub mod ChainLemmas
 pub mod ExamplesNames
 pub mod HeaderLemmas
 pub mod NodeWalks
+pub mod NodeEquality
