@@ -17,7 +17,9 @@ as_list next m = option_to_list (next m)
 it : (n : ℕ) → Contains (n ∷ []) n
 it n = (0, omega arith, refl)
 
-walk_has : (next : ℕ → Option ℕ) (k : ℕ) (o : Option ℕ) (n : ℕ) → walked (as_list next) k (option_to_list o) n ≡ true → list_any (nat_eq n) (walk next (suc k) o) ≡ true
+walk_has : (next : ℕ → Option ℕ) (k : ℕ) (o : Option ℕ) (n : ℕ)
+    → walked (as_list next) k (option_to_list o) n ≡ true
+    → list_any (nat_eq n) (walk next (suc k) o) ≡ true
 walk_has next zero None n h = absurd (false≢true h)
 walk_has next zero (Some r) n h = h
 walk_has next (suc k) None n h = absurd (false≢true h)
@@ -52,13 +54,17 @@ nothing_reached : (next : ℕ → List ℕ) (n : ℕ) → IsReached next [] n �
 nothing_reached next n (root m c) = (let lt : c.0 < 0 = c.1 in omega arith)
 nothing_reached next n (step m o w h) = nothing_reached next m w
 
-walks_back : (doc : Doc) (bound : ℕ) (o : Option ℕ) (x : ℕ) → LeadsBelow (parents doc) bound → ((p : ℕ) → o ≡ Some p → p < bound) → IsReached (parents doc) (option_to_list o) x → list_any (nat_eq x) (walk (parent_of doc) bound o) ≡ true
+walks_back : (doc : Doc) (bound : ℕ) (o : Option ℕ) (x : ℕ) → LeadsBelow (parents doc) bound
+    → ((p : ℕ) → o ≡ Some p → p < bound) → IsReached (parents doc) (option_to_list o) x
+    → list_any (nat_eq x) (walk (parent_of doc) bound o) ≡ true
 walks_back doc bound None x below small w = absurd (nothing_reached (parents doc) x w)
 walks_back doc zero (Some r) x below small w = absurd (let lt : r < 0 = small r refl in omega arith)
 walks_back doc (suc k) (Some r) x below small w =
     walk_has (parent_of doc) k (Some r) x (reaches_sooner (parents doc) k below r x (small r refl) w)
 
-walk_leads : (doc : Doc) (k : ℕ) (o : Option ℕ) (x : ℕ) → list_any (nat_eq x) (walk (parent_of doc) k o) ≡ true → IsReached (parents doc) (option_to_list o) x
+walk_leads : (doc : Doc) (k : ℕ) (o : Option ℕ) (x : ℕ)
+    → list_any (nat_eq x) (walk (parent_of doc) k o) ≡ true
+    → IsReached (parents doc) (option_to_list o) x
 walk_leads doc zero o x h = absurd (false≢true h)
 walk_leads doc (suc k) None x h = absurd (false≢true h)
 walk_leads doc (suc k) (Some r) x h =
@@ -75,7 +81,8 @@ ancestors_are_walks doc c a =
       λ w. any_is up a (walks_back doc (class_count doc) (parent_of doc c) a (parents_below doc) (λ p e. parent_below doc c p e) w),
     )
 
-own_ancestor : (doc : Doc) (x : ℕ) → IsReached (parents doc) (parents doc x) x → is_own_ancestor doc x ≡ true
+own_ancestor : (doc : Doc) (x : ℕ) → IsReached (parents doc) (parents doc x) x
+    → is_own_ancestor doc x ≡ true
 unfolding is_own_ancestor ancestors
 own_ancestor doc x w =
     walks_back doc (class_count doc) (parent_of doc x) x (parents_below doc) (λ p e. parent_below doc x p e) w
@@ -92,7 +99,8 @@ meets_no_cycle doc c h x reached back =
 
 -- ---- the chain
 
-above_of : (doc : Doc) (c p n : ℕ) → parent_of doc c ≡ Some p → is_above doc p n ≡ true → is_above doc c n ≡ true
+above_of : (doc : Doc) (c p n : ℕ) → parent_of doc c ≡ Some p → is_above doc p n ≡ true
+    → is_above doc c n ≡ true
 above_of doc c p n e h =
     let among : Contains (parents doc c) p = subst (λ o. Contains (option_to_list o) p) (sym e) (it p) in
     reaches_walked (parents doc) (class_count doc) (parents_below doc) (parents doc c) n
@@ -102,12 +110,14 @@ is_its_parent : (doc : Doc) (c p : ℕ) → parent_of doc c ≡ Some p → is_ab
 is_its_parent doc c p e =
     at_once (parents doc) (class_count doc) (parents doc c) p (subst (λ o. Contains (option_to_list o) p) (sym e) (it p))
 
-reached_up : (doc : Doc) (c p x : ℕ) → parent_of doc c ≡ Some p → IsReached (parents doc) (p ∷ []) x → IsReached (parents doc) (c ∷ []) x
+reached_up : (doc : Doc) (c p x : ℕ) → parent_of doc c ≡ Some p
+    → IsReached (parents doc) (p ∷ []) x → IsReached (parents doc) (c ∷ []) x
 reached_up doc c p x e w =
     reached_beyond (parents doc) (c ∷ []) c x (it c) (subst (λ o. IsReached (parents doc) (option_to_list o) x) (sym e) w)
 
 -- a class has fewer ancestors than those that stand below it
-fewer_above : (doc : Doc) (c p : ℕ) → parent_of doc c ≡ Some p → MeetsNoCycle doc c → count_below (is_above doc p) (class_count doc) < count_below (is_above doc c) (class_count doc)
+fewer_above : (doc : Doc) (c p : ℕ) → parent_of doc c ≡ Some p → MeetsNoCycle doc c
+    → count_below (is_above doc p) (class_count doc) < count_below (is_above doc c) (class_count doc)
 fewer_above doc c p e free =
     elim (grows (is_above doc p) (is_above doc c) (class_count doc) (λ n lt h. above_of doc c p n e h)) [
       | inl same ↦ absurd (free p (reached_up doc c p p e (root p (it p)))
@@ -115,7 +125,9 @@ fewer_above doc c p e free =
       | inr fewer ↦ fewer
     ]
 
-chain_at : (doc : Doc) (k c : ℕ) (o : Option ℕ) → parent_of doc c ≡ o → count_below (is_above doc c) (class_count doc) ≤ k → MeetsNoCycle doc c → IsChain doc c (c ∷ walk (parent_of doc) k o)
+chain_at : (doc : Doc) (k c : ℕ) (o : Option ℕ) → parent_of doc c ≡ o
+    → count_below (is_above doc c) (class_count doc) ≤ k → MeetsNoCycle doc c
+    → IsChain doc c (c ∷ walk (parent_of doc) k o)
 chain_at doc zero c None e few free = at_root c e
 chain_at doc (suc k) c None e few free = at_root c e
 chain_at doc zero c (Some p) e few free =
