@@ -33,7 +33,15 @@ use Rattle.dg_decl.specs.Stages.Dependencies.{stands_on, is_below, bad_depends_o
 
 -- what an example unfolds: a proof that unfolds this unfolds them all
 unfoldable pub looks_up : ℕ
-unfolding digits site_of_line shapes.out-Shape out shown hidden block.shown-the_row-Shape-0 base_of kind_of value_of inside_of core_of plain_of produced_of producing_of asked_of request_of same_key statements declared module_named class_item_named fields_of class_count class_named class_name header_of parent_of ancestors chain is_own_ancestor scopes_of is_replaced seeds included is_reached is_installed installed bound_of class_around entries_of deps_of exposed_of component_classes bindings explicit explicit_in_chain contributions is_declared is_optional_declared find_without_explicit line_of_multi find parent_cycle ancestor_scope duplicate_entry bad_replace components_stage stands_on is_below bad_depends_on dependencies_stage
+unfolding digits site_of_line shapes.out-Shape out shown hidden block.shown-the_row-Shape-0 base_of
+    kind_of value_of inside_of core_of plain_of produced_of producing_of asked_of request_of
+    same_key statements declared module_named class_item_named fields_of class_count class_named
+    class_name header_of parent_of ancestors chain is_own_ancestor scopes_of is_replaced seeds
+    included is_reached is_installed installed bound_of class_around entries_of deps_of exposed_of
+    component_classes bindings explicit explicit_in_chain contributions is_declared
+    is_optional_declared find_without_explicit line_of_multi find parent_cycle ancestor_scope
+    duplicate_entry bad_replace components_stage stands_on is_below bad_depends_on
+    dependencies_stage
 looks_up = zero
 
 -- these items on the lines 1, 2 and so on

@@ -32,7 +32,8 @@ GivesBelow {A} bound f = (a : A) (n : ℕ) → f a ≡ Some n → n < bound
 below_at : (bound : ℕ) (xs : List ℕ) (n k : ℕ) → EachBelow bound xs → k < length xs
     → get_or xs k n ≡ n → n < bound
 below_at bound [] n k each lt e = absurd (omega arith)
-below_at bound (x ∷ xs) n zero each lt e = (let small : x < bound = each.0 in let same : x ≡ n = e in omega arith)
+below_at bound (x ∷ xs) n zero each lt e = (let small : x < bound = each.0 in let same : x ≡ n = e
+    in omega arith)
 below_at bound (x ∷ xs) n (suc k) each lt e = below_at bound xs n k each.1 (omega arith) e
 
 pub below_of_each : (bound : ℕ) (xs : List ℕ) (n : ℕ) → EachBelow bound xs → Contains xs n
@@ -47,7 +48,8 @@ cons_kept bound false x xs small each = each
 pub each_filter : (bound : ℕ) (p : ℕ → Bool) (xs : List ℕ) → EachBelow bound xs
     → EachBelow bound (filter p xs)
 each_filter bound p [] each = tt
-each_filter bound p (x ∷ xs) each = cons_kept bound (p x) x (filter p xs) each.0 (each_filter bound p xs each.1)
+each_filter bound p (x ∷ xs) each = cons_kept bound (p x) x (filter p xs) each.0
+    (each_filter bound p xs each.1)
 
 cons_given : (bound : ℕ) (o : Option ℕ) (xs : List ℕ) → ((n : ℕ) → o ≡ Some n → n < bound)
     → EachBelow bound xs → EachBelow bound (cons_option o xs)
@@ -57,7 +59,8 @@ cons_given bound (Some n) xs small each = (small n refl, each)
 pub each_filter_map : {A : Type 0} (bound : ℕ) (f : A → Option ℕ) (xs : List A)
     → GivesBelow bound f → EachBelow bound (filter_map f xs)
 each_filter_map bound f [] small = tt
-each_filter_map bound f (x ∷ xs) small = cons_given bound (f x) (filter_map f xs) (small x) (each_filter_map bound f xs small)
+each_filter_map bound f (x ∷ xs) small = cons_given bound (f x) (filter_map f xs) (small x)
+    (each_filter_map bound f xs small)
 
 pub each_append : (bound : ℕ) (xs ys : List ℕ) → EachBelow bound xs → EachBelow bound ys
     → EachBelow bound (xs ++ ys)
@@ -84,12 +87,14 @@ below_or bound (Some m) p first second n e = first n e
 
 position_at : (b : Bool) (k bound n : ℕ) → nat_lt k bound ≡ b → cond b (Some k) None ≡ Some n
     → n < bound
-position_at true k bound n lt e = (let small : k < bound = ltb-true k bound lt in let same : k ≡ n = same_value k n e in omega arith)
+position_at true k bound n lt e = (let small : k < bound = ltb-true k bound lt in let same : k
+    ≡ n = same_value k n e in omega arith)
 position_at false k bound n lt e = absurd (none_is_not_some n e)
 
 pub position_below : {A : Type 0} (p : A → Bool) (xs : List A) (n : ℕ) → position p xs ≡ Some n
     → n < length xs
-position_below p xs n e = position_at (nat_lt (position_or_len p xs) (length xs)) (position_or_len p xs) (length xs) n refl e
+position_below p xs n e = position_at (nat_lt (position_or_len p xs) (length xs))
+    (position_or_len p xs) (length xs) n refl e
 
 -- ---- indices of statements
 
@@ -116,4 +121,5 @@ found_cond bound false s t rest small later e = later e
 pub found_below : (bound : ℕ) (p : Statement → Bool) (ss : List Statement)
     → EachIndexBelow bound ss → (s : Statement) → find p ss ≡ Some s → s.index < bound
 found_below bound p [] each s e = absurd (none_is_not_some s e)
-found_below bound p (t ∷ ts) each s e = found_cond bound (p t) t s (find p ts) each.0 (found_below bound p ts each.1 s) e
+found_below bound p (t ∷ ts) each s e = found_cond bound (p t) t s (find p ts) each.0
+    (found_below bound p ts each.1 s) e

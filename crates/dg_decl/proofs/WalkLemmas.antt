@@ -1,4 +1,5 @@
--- Walks of at most so many steps reach what walks of any length reach, where there are no more nodes than that.
+-- Walks of at most so many steps reach what walks of any length reach, where there are no more
+-- nodes than that.
 use Rattle.std.proofs.Common.{◌≡◌, ◌⊎◌, inl, inr, ℕ, zero, suc, ◌+◌, ◌<◌, ◌≤◌, Bool, true, false, nat_eq, List, [], ◌∷◌, length, get_or, Contains, IsTrue, ◌↔◌, refl, sym, ap, ◌∙◌, arith}
 use Rattle.std.specs.List.{list_any}
 use Rattle.std.proofs.lemmas.Bool.{false≢true, or_cases, or_left, or_right, eqb-true, eq-eqb, cases_lt}
@@ -20,14 +21,16 @@ any_found p [] h = absurd (false≢true h)
 any_found p (x ∷ xs) h =
     elim (or_cases (p x) (list_any p xs) h) [
       | inl e ↦ record { at = x; among = (0, omega arith, refl); passes = e }
-      | inr e ↦ (let f = any_found p xs e in record { at = f.at; among = in_rest f.at x xs f.among; passes = f.passes })
+      | inr e ↦ (let f = any_found p xs e
+          in record { at = f.at; among = in_rest f.at x xs f.among; passes = f.passes })
     ]
 
 any_at : (p : ℕ → Bool) (xs : List ℕ) (x k : ℕ) → k < length xs → get_or xs k x ≡ x → p x ≡ true
     → list_any p xs ≡ true
 any_at p [] x k lt e h = absurd (omega arith)
 any_at p (y ∷ ys) x zero lt e h = or_left (p y) (list_any p ys) (ap p e ∙ h)
-any_at p (y ∷ ys) x (suc k) lt e h = or_right (p y) (list_any p ys) (any_at p ys x k (omega arith) e h)
+any_at p (y ∷ ys) x (suc k) lt e h = or_right (p y) (list_any p ys) (any_at p ys x k
+    (omega arith) e h)
 
 pub any_from : (p : ℕ → Bool) (xs : List ℕ) (x : ℕ) → Contains xs x → p x ≡ true
     → list_any p xs ≡ true
@@ -74,7 +77,8 @@ longer next (suc k) roots n h =
 
 pub one_more : (next : ℕ → List ℕ) (k : ℕ) (roots : List ℕ) (m n : ℕ)
     → walked next k roots m ≡ true → Contains (next m) n → walked next (suc k) roots n ≡ true
-one_more next zero roots m n h c = beyond next zero roots m n (any_is roots m h) (at_once next zero (next m) n c)
+one_more next zero roots m n h c = beyond next zero roots m n (any_is roots m h) (at_once next zero
+    (next m) n c)
 one_more next (suc k) roots m n h c =
     elim (or_cases (list_any (nat_eq m) roots) _ h) [
       | inl e ↦ beyond next (suc k) roots m n (any_is roots m e) (at_once next (suc k) (next m) n c)
@@ -94,7 +98,12 @@ last_step next zero roots n h =
     elim (or_cases (list_any (nat_eq n) roots) _ h) [
       | inl e ↦ inl e
       | inr e ↦ (let f = any_found (λ m. walked next zero (next m) n) roots e in
-          inr (record { before = f.at; reached = is_any roots f.at f.among; leads = any_is (next f.at) n f.passes }))
+          inr (record {
+            before = f.at;
+            reached = is_any roots f.at f.among;
+            leads = any_is
+                (next f.at) n f.passes;
+          }))
     ]
 last_step next (suc k) roots n h =
     elim (or_cases (list_any (nat_eq n) roots) _ h) [
@@ -102,7 +111,13 @@ last_step next (suc k) roots n h =
       | inr e ↦ (let f = any_found (λ m. walked next (suc k) (next m) n) roots e in
           elim (last_step next k (next f.at) n f.passes) [
             | inl w ↦ inl (beyond next k roots f.at n f.among w)
-            | inr b ↦ inr (record { before = b.before; reached = beyond next k roots f.at b.before f.among b.reached; leads = b.leads })
+            | inr b ↦ inr
+                (record {
+                  before = b.before;
+                  reached = beyond next k roots f.at b.before f.among
+                      b.reached;
+                  leads = b.leads;
+                })
           ])
     ]
 
@@ -156,7 +171,12 @@ count_more : (p q : ℕ → Bool) (bound : ℕ) → Passes p q bound
     → count_below p bound ≤ count_below q bound
 count_more p q zero h = omega arith
 count_more p q (suc n) h =
-    omega (arith, count_more p q n (passes_below p q n h), one_more_true (p n) (q n) (h n (omega arith)))
+    omega (
+      arith,
+      count_more p q n (passes_below p q n h),
+      one_more_true (p n) (q n) (h n
+          (omega arith)),
+    )
 
 passes_at : (p q : ℕ → Bool) (bound : ℕ) → Passes p q bound → (p bound ≡ true → q bound ≡ true)
     → Passes p q (suc bound)
@@ -172,7 +192,8 @@ grows_at : (p q : ℕ → Bool) (n : ℕ) (a b : Bool) → p n ≡ a → q n ≡
 grows_at p q n true b ea eb sub le (inl same) = inl (passes_at q p n same (λ e. ea))
 grows_at p q n true b ea eb sub le (inr more) = inr (rw (ea, eb, sub refl) (omega arith))
 grows_at p q n false true ea eb sub le rest = inr (rw (ea, eb) (omega arith))
-grows_at p q n false false ea eb sub le (inl same) = inl (passes_at q p n same (λ e. absurd (false≢true (sym eb ∙ e))))
+grows_at p q n false false ea eb sub le (inl same) = inl (passes_at q p n same (λ e. absurd
+    (false≢true (sym eb ∙ e))))
 grows_at p q n false false ea eb sub le (inr more) = inr (rw (ea, eb) (omega arith))
 
 -- what passes more either passes no other number, or counts more
@@ -181,17 +202,25 @@ pub grows : (p q : ℕ → Bool) (bound : ℕ) → Passes p q bound
 grows p q zero h = inl (λ n lt e. absurd (omega arith))
 grows p q (suc n) h =
     let below = passes_below p q n h in
-    grows_at p q n (p n) (q n) refl refl (h n (omega arith)) (count_more p q n below) (grows p q n below)
+    grows_at p q n (p n) (q n) refl refl (h n (omega arith)) (count_more p q n below)
+    (grows p q n below)
 
 all_at : (p : ℕ → Bool) (bound : ℕ) (a : Bool) → p bound ≡ a
     → suc bound ≤ count_below p (suc bound) → (bound ≤ count_below p bound) × (p bound ≡ true)
-all_at p bound true e h = (let h' : suc bound ≤ count_below p bound + 1 = subst-one h in omega arith, e)
+all_at p bound true e h = (
+  let h' : suc bound ≤ count_below p bound + 1 = subst-one h
+      in omega arith,
+  e,
+)
   where
-    subst-one : suc bound ≤ count_below p bound + one_if (p bound) → suc bound ≤ count_below p bound + 1
+    subst-one : suc bound ≤ count_below p bound + one_if (p bound)
+        → suc bound ≤ count_below p bound + 1
     subst-one h = rw (sym (ap one_if e)) h
-all_at p bound false e h = absurd (let h' : suc bound ≤ count_below p bound + 0 = subst-none h in omega (arith, at_most_all p bound))
+all_at p bound false e h = absurd (let h' : suc bound ≤ count_below p bound + 0 = subst-none h
+    in omega (arith, at_most_all p bound))
   where
-    subst-none : suc bound ≤ count_below p bound + one_if (p bound) → suc bound ≤ count_below p bound + 0
+    subst-none : suc bound ≤ count_below p bound + one_if (p bound)
+        → suc bound ≤ count_below p bound + 0
     subst-none h = rw (sym (ap one_if e)) h
 
 -- where as many pass as there are, each passes
@@ -251,10 +280,11 @@ closed_or_more next bound below roots start first zero = inr (omega (arith, firs
 closed_or_more next bound below roots start first (suc k) =
     elim (closed_or_more next bound below roots start first k) [
       | inl c ↦ inl (stays_closed next roots k c)
-      | inr many ↦ elim (grows (walked next k roots) (walked next (suc k) roots) bound (λ n lt h. longer next k roots n h)) [
-        | inl f ↦ inl (stays_closed next roots k (closed_from next bound below roots k f))
-        | inr more ↦ inr (omega arith)
-      ]
+      | inr many ↦ elim (grows (walked next k roots) (walked next (suc k) roots) bound
+          (λ n lt h. longer next k roots n h)) [
+            | inl f ↦ inl (stays_closed next roots k (closed_from next bound below roots k f))
+            | inr more ↦ inr (omega arith)
+          ]
     ]
 
 closed_at : (next : ℕ → List ℕ) (bound : ℕ) → LeadsBelow next bound → (roots : List ℕ) (start : ℕ)
@@ -262,7 +292,8 @@ closed_at : (next : ℕ → List ℕ) (bound : ℕ) → LeadsBelow next bound �
 closed_at next bound below roots start first k enough =
     elim (closed_or_more next bound below roots start first k) [
       | inl c ↦ c
-      | inr many ↦ closed_from next bound below roots k (λ n lt h. all_pass (walked next k roots) bound (omega arith) n lt)
+      | inr many ↦ closed_from next bound below roots k (λ n lt h. all_pass
+          (walked next k roots) bound (omega arith) n lt)
     ]
 
 reaches_closed : (next : ℕ → List ℕ) (roots : List ℕ) (k : ℕ) → IsClosed next roots k → (n : ℕ)
@@ -274,14 +305,17 @@ reaches_closed next roots k closed n (step m o w h) =
 pub reaches_walked : (next : ℕ → List ℕ) (bound : ℕ) → LeadsBelow next bound
     → (roots : List ℕ) (n : ℕ) → IsReached next roots n → walked next bound roots n ≡ true
 reaches_walked next bound below roots n w =
-    reaches_closed next roots bound (closed_at next bound below roots 0 (omega arith) bound (omega arith)) n w
+    reaches_closed next roots bound (closed_at next bound below roots 0 (omega arith) bound
+    (omega arith)) n w
 
 -- from one node a step less is enough
 pub reaches_sooner : (next : ℕ → List ℕ) (k : ℕ) → LeadsBelow next (suc k) → (r n : ℕ) → r < suc k
     → IsReached next (r ∷ []) n → walked next k (r ∷ []) n ≡ true
 reaches_sooner next k below r n lt w =
-    let first = counts_one (walked next 0 (r ∷ [])) (suc k) r lt (at_once next 0 (r ∷ []) r (0, omega arith, refl)) in
-    reaches_closed next (r ∷ []) k (closed_at next (suc k) below (r ∷ []) 1 first k (omega arith)) n w
+    let first = counts_one (walked next 0 (r ∷ [])) (suc k) r lt (at_once next 0 (r ∷ []) r
+    (0, omega arith, refl)) in
+    reaches_closed next (r ∷ []) k (closed_at next (suc k) below (r ∷ []) 1 first k
+    (omega arith)) n w
 
 -- as many steps as there are nodes are enough
 pub walks_within : (next : ℕ → List ℕ) (bound : ℕ) → LeadsBelow next bound
