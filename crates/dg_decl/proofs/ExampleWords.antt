@@ -20,6 +20,7 @@ use Rattle.dg_decl.specs.declared.document.Doc.{Doc}
 use Rattle.dg_decl.specs.declared.expression.Expr.TheVariants as expr
 use Rattle.dg_decl.specs.declared.item.Mark.{Mark}
 use Rattle.dg_decl.specs.declared.item.Mark.TheVariants as mark
+use Rattle.dg_decl.specs.declared.item.Param.{Param}
 use Rattle.dg_decl.specs.declared.item.Item.{Item}
 use Rattle.dg_decl.specs.declared.item.Item.TheVariants as item
 use Rattle.dg_decl.specs.Document.{statements}
@@ -99,3 +100,6 @@ entry_line n = item.Entry n text_use
 -- a class with `@Inject`
 abbrev pub inject_line : Option Bytes → Bytes → Item
 inject_line scope n = item.Class true scope n [] []
+
+abbrev pub parameter : Bytes → TypeUse → Param
+parameter n use_type = record { name = n; shape = use_type }

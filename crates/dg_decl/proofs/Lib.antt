@@ -7,3 +7,4 @@ pub mod ComponentLemmas
 pub mod ChainLemmas
 pub mod ExamplesNames
 pub mod HeaderLemmas
+pub mod ExampleShop
