@@ -16,10 +16,12 @@ use Rattle.dg_types.specs.declared.key.Inner.{Inner}
 use Rattle.dg_types.specs.declared.key.Inner.TheVariants as inner
 use Rattle.dg_types.specs.Requests.{base_of, kind_of, value_of, inside_of, core_of, plain_of, produced_of, producing_of, asked_of, request_of}
 use Rattle.dg_types.specs.Equality.{same_key}
+use Rattle.dg_hilt.specs.Names as hilt_names
 use Rattle.dg_decl.specs.declared.document.Doc.{Doc}
 use Rattle.dg_decl.specs.declared.expression.Expr.TheVariants as expr
 use Rattle.dg_decl.specs.declared.item.Mark.{Mark}
 use Rattle.dg_decl.specs.declared.item.Mark.TheVariants as mark
+use Rattle.dg_decl.specs.declared.item.Param.{Param}
 use Rattle.dg_decl.specs.declared.item.Item.{Item}
 use Rattle.dg_decl.specs.declared.item.Item.TheVariants as item
 use Rattle.dg_decl.specs.Document.{statements}
@@ -33,7 +35,15 @@ use Rattle.dg_decl.specs.Stages.Dependencies.{stands_on, is_below, bad_depends_o
 
 -- what an example unfolds: a proof that unfolds this unfolds them all
 unfoldable pub looks_up : ℕ
-unfolding digits site_of_line shapes.out-Shape out shown hidden block.shown-the_row-Shape-0 base_of kind_of value_of inside_of core_of plain_of produced_of producing_of asked_of request_of same_key statements declared module_named class_item_named fields_of class_count class_named class_name header_of parent_of ancestors chain is_own_ancestor scopes_of is_replaced seeds included is_reached is_installed installed bound_of class_around entries_of deps_of exposed_of component_classes bindings explicit explicit_in_chain contributions is_declared is_optional_declared find_without_explicit line_of_multi find parent_cycle ancestor_scope duplicate_entry bad_replace components_stage stands_on is_below bad_depends_on dependencies_stage
+unfolding digits site_of_line shapes.out-Shape out shown hidden block.shown-the_row-Shape-0 base_of
+    kind_of value_of inside_of core_of plain_of produced_of producing_of asked_of request_of
+    same_key hilt_names.predefined_names statements declared module_named class_item_named fields_of class_count class_named
+    class_name header_of parent_of ancestors chain is_own_ancestor scopes_of is_replaced seeds
+    included is_reached is_installed installed bound_of class_around entries_of deps_of exposed_of
+    component_classes bindings explicit explicit_in_chain contributions is_declared
+    is_optional_declared find_without_explicit line_of_multi find parent_cycle ancestor_scope
+    duplicate_entry bad_replace components_stage stands_on is_below bad_depends_on
+    dependencies_stage
 looks_up = zero
 
 -- these items on the lines 1, 2 and so on
@@ -91,3 +101,6 @@ entry_line n = item.Entry n text_use
 -- a class with `@Inject`
 abbrev pub inject_line : Option Bytes → Bytes → Item
 inject_line scope n = item.Class true scope n [] []
+
+abbrev pub parameter : Bytes → TypeUse → Param
+parameter n use_type = record { name = n; shape = use_type }

@@ -1,4 +1,5 @@
--- Small documents that decide the classes of components, and the rules on them. Lines are counted from 1.
+-- Small documents that decide the classes of components, and the rules on them. Lines are counted
+-- from 1.
 use Rattle.std.proofs.Common.{◌≡◌, refl}
 use Rattle.std.specs.Prelude.{[], ◌∷◌, Some, None, codes, drop}
 use Rattle.dg_lex.specs.Bytes.{Bytes}
@@ -63,7 +64,8 @@ circle =
     ∷ [])
 
 pub those_on_the_cycle_are_their_own_ancestors :
-    components_stage circle ≡ broken rule.ParentCycle (codes "line 2") (codes "A") ∷ broken rule.ParentCycle (codes "line 4") (codes "B") ∷ []
+    components_stage circle ≡ broken rule.ParentCycle (codes "line 2") (codes "A")
+    ∷ broken rule.ParentCycle (codes "line 4") (codes "B") ∷ []
 unfolding looks_up
 those_on_the_cycle_are_their_own_ancestors = refl
 
@@ -79,19 +81,22 @@ two_scopes =
     ∷ [])
 
 pub each_scope_of_an_ancestor_is_told :
-    components_stage two_scopes ≡ broken rule.AncestorScope (codes "line 5") (codes "S") ∷ broken rule.AncestorScope (codes "line 5") (codes "S") ∷ []
+    components_stage two_scopes ≡ broken rule.AncestorScope (codes "line 5") (codes "S")
+    ∷ broken rule.AncestorScope (codes "line 5") (codes "S") ∷ []
 unfolding looks_up
 each_scope_of_an_ancestor_is_told = refl
 
 -- a defined component carries the scope of one of Hilt's that is its ancestor
 abbrev hilt_scope : Doc
 hilt_scope =
-    doc_of (item.DefineComponent (codes "Singleton" ∷ codes "FragmentScoped" ∷ []) (codes "Mine") (codes "ActivityComponent")
+    doc_of (item.DefineComponent (codes "Singleton" ∷ codes "FragmentScoped" ∷ []) (codes "Mine")
+    (codes "ActivityComponent")
     ∷ item.End
     ∷ [])
 
 pub hilt_scopes_count :
-    components_stage hilt_scope ≡ broken rule.AncestorScope (codes "line 1") (codes "Singleton") ∷ []
+    components_stage hilt_scope ≡ broken rule.AncestorScope (codes "line 1") (codes "Singleton")
+    ∷ []
 unfolding looks_up
 hilt_scopes_count = refl
 
@@ -127,12 +132,14 @@ replacing =
     ∷ item.End
     ∷ module_line (codes "N")
     ∷ item.End
-    ∷ item.TestModule (codes "SingletonComponent") (codes "T") (codes "M" ∷ codes "N" ∷ codes "T" ∷ []) []
+    ∷ item.TestModule (codes "SingletonComponent") (codes "T") (codes "M" ∷ codes "N" ∷ codes "T"
+    ∷ []) []
     ∷ item.End
     ∷ [])
 
 pub only_an_installed_module_may_be_replaced :
-    components_stage replacing ≡ broken rule.BadReplace (codes "line 5") (codes "N") ∷ broken rule.BadReplace (codes "line 5") (codes "T") ∷ []
+    components_stage replacing ≡ broken rule.BadReplace (codes "line 5") (codes "N")
+    ∷ broken rule.BadReplace (codes "line 5") (codes "T") ∷ []
 unfolding looks_up
 only_an_installed_module_may_be_replaced = refl
 
@@ -162,7 +169,10 @@ depending =
     ∷ [])
 
 pub each_bad_dependency_is_told_once :
-    dependencies_stage depending ≡ broken rule.BadDependsOn (codes "line 2") (codes "Self") ∷ broken rule.BadDependsOn (codes "line 5") (codes "B") ∷ broken rule.BadDependsOn (codes "line 8") (codes "A") ∷ broken rule.BadDependsOn (codes "line 14") (codes "Self") ∷ broken rule.BadDependsOn (codes "line 19") (codes "SingletonComponent") ∷ []
+    dependencies_stage depending ≡ broken rule.BadDependsOn (codes "line 2") (codes "Self")
+    ∷ broken rule.BadDependsOn (codes "line 5") (codes "B") ∷ broken rule.BadDependsOn
+    (codes "line 8") (codes "A") ∷ broken rule.BadDependsOn (codes "line 14") (codes "Self")
+    ∷ broken rule.BadDependsOn (codes "line 19") (codes "SingletonComponent") ∷ []
 unfolding looks_up
 each_bad_dependency_is_told_once = refl
 

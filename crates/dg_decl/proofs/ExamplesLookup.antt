@@ -1,4 +1,5 @@
--- Small documents that decide what a component class finds. Hilt's classes have the numbers 0 to 7, and the components of
+-- Small documents that decide what a component class finds. Hilt's classes have the numbers 0 to 7,
+-- and the components of
 -- a document have those from 8 on. Items are counted from 0, lines from 1.
 use Rattle.std.proofs.Common.{◌≡◌, refl}
 use Rattle.std.specs.Prelude.{false, [], ◌∷◌, Some, None, codes, pos}
@@ -49,7 +50,8 @@ parent_and_child =
     ∷ [])
 
 pub a_child_does_not_hide_its_parent :
-    find parent_and_child 9 text_key ≡ found.Many (owned 8 (ref.Member 1) ∷ owned 9 (ref.Member 4) ∷ [])
+    find parent_and_child 9 text_key ≡ found.Many (owned 8 (ref.Member 1) ∷ owned 9 (ref.Member 4)
+    ∷ [])
 unfolding looks_up
 a_child_does_not_hide_its_parent = refl
 
@@ -75,17 +77,20 @@ two_and_three =
     ∷ [])
 
 pub the_set_of_the_parent :
-    find two_and_three 8 (text_set inner.Plain) ≡ found.SetOf (owned 8 (ref.Member 4) ∷ owned 8 (ref.Member 5) ∷ [])
+    find two_and_three 8 (text_set inner.Plain) ≡ found.SetOf (owned 8 (ref.Member 4) ∷ owned 8
+    (ref.Member 5) ∷ [])
 unfolding looks_up
 the_set_of_the_parent = refl
 
 pub the_set_of_the_child :
-    find two_and_three 9 (text_set inner.Plain) ≡ found.SetOf (owned 8 (ref.Member 4) ∷ owned 8 (ref.Member 5) ∷ owned 9 (ref.Member 1) ∷ [])
+    find two_and_three 9 (text_set inner.Plain) ≡ found.SetOf (owned 8 (ref.Member 4) ∷ owned 8
+    (ref.Member 5) ∷ owned 9 (ref.Member 1) ∷ [])
 unfolding looks_up
 the_set_of_the_child = refl
 
 pub a_set_of_produced_has_the_same_contributions :
-    find two_and_three 9 (text_set inner.Produced) ≡ found.SetOf (owned 8 (ref.Member 4) ∷ owned 8 (ref.Member 5) ∷ owned 9 (ref.Member 1) ∷ [])
+    find two_and_three 9 (text_set inner.Produced) ≡ found.SetOf (owned 8 (ref.Member 4) ∷ owned 8
+    (ref.Member 5) ∷ owned 9 (ref.Member 1) ∷ [])
 unfolding looks_up
 a_set_of_produced_has_the_same_contributions = refl
 
@@ -169,7 +174,8 @@ unfolding looks_up
 an_unscoped_class_is_owned_by_who_asks = refl
 
 pub a_qualified_key_is_bound_by_no_class :
-    find scoped 9 (record { qualifier = Some named; core = core.One (base.Named (codes "Free")) }) ≡ found.Nothing
+    find scoped 9 (record { qualifier = Some named; core = core.One (base.Named (codes "Free")) })
+    ≡ found.Nothing
 unfolding looks_up
 a_qualified_key_is_bound_by_no_class = refl
 
@@ -185,12 +191,14 @@ two_entries =
     ∷ [])
 
 pub a_map_has_its_contributions :
-    find two_entries 8 (number_map inner.Plain) ≡ found.MapOf (owned 8 (ref.Member 1) ∷ owned 8 (ref.Member 2) ∷ [])
+    find two_entries 8 (number_map inner.Plain) ≡ found.MapOf (owned 8 (ref.Member 1) ∷ owned 8
+    (ref.Member 2) ∷ [])
 unfolding looks_up
 a_map_has_its_contributions = refl
 
 pub a_map_of_providers_has_the_same_contributions :
-    find two_entries 8 (number_map inner.Provider) ≡ found.MapOf (owned 8 (ref.Member 1) ∷ owned 8 (ref.Member 2) ∷ [])
+    find two_entries 8 (number_map inner.Provider) ≡ found.MapOf (owned 8 (ref.Member 1) ∷ owned 8
+    (ref.Member 2) ∷ [])
 unfolding looks_up
 a_map_of_providers_has_the_same_contributions = refl
 
@@ -366,7 +374,9 @@ exposing_beside =
     ∷ [])
 
 pub exposed_entries_stand_at_the_header :
-    find exposing_beside 10 text_key ≡ found.Many (owned 10 (ref.Member 1) ∷ owned 10 (ref.Exposed 0 8) ∷ owned 10 (ref.Exposed 1 4) ∷ owned 10 (ref.Exposed 1 5) ∷ owned 10 (ref.Arg 0) ∷ owned 10 (ref.Member 16) ∷ [])
+    find exposing_beside 10 text_key ≡ found.Many (owned 10 (ref.Member 1) ∷ owned 10
+    (ref.Exposed 0 8) ∷ owned 10 (ref.Exposed 1 4) ∷ owned 10 (ref.Exposed 1 5) ∷ owned 10
+    (ref.Arg 0) ∷ owned 10 (ref.Member 16) ∷ [])
 unfolding looks_up
 exposed_entries_stand_at_the_header = refl
 
@@ -374,7 +384,11 @@ exposed_entries_stand_at_the_header = refl
 abbrev defaults : Doc
 defaults =
     doc_of (item.Module (Some (codes "SingletonComponent")) (codes "M") []
-    ∷ item.Binds None None (codes "b") (record { name = codes "p"; shape = class_use (codes "Service") }) (class_use (codes "Application"))
+    ∷ item.Binds None None (codes "b") (record {
+      name = codes "p";
+      shape = class_use
+          (codes "Service");
+    }) (class_use (codes "Application"))
     ∷ item.End
     ∷ [])
 
@@ -384,7 +398,8 @@ unfolding looks_up
 a_default_binding_is_found = refl
 
 pub a_default_binding_stands_first :
-    find defaults 0 (class_key (codes "Application")) ≡ found.Many (owned 0 ref.Default ∷ owned 0 (ref.Member 1) ∷ [])
+    find defaults 0 (class_key (codes "Application")) ≡ found.Many (owned 0 ref.Default ∷ owned 0
+    (ref.Member 1) ∷ [])
 unfolding looks_up
 a_default_binding_stands_first = refl
 
@@ -398,7 +413,8 @@ abbrev elements : Doc
 elements =
     doc_of (module_line (codes "M")
     ∷ element_line (codes "a")
-    ∷ item.Provides (Some mark.ElementsIntoSet) None (codes "b") [] (bare_use (shape.Set shape.Text)) (expr.Text (codes "x"))
+    ∷ item.Provides (Some mark.ElementsIntoSet) None (codes "b") [] (bare_use
+    (shape.Set shape.Text)) (expr.Text (codes "x"))
     ∷ item.Provides (Some mark.IntoSet) None (codes "c") [] named_text (expr.Text (codes "x"))
     ∷ text_line None (codes "d")
     ∷ item.End
@@ -407,12 +423,14 @@ elements =
     ∷ [])
 
 pub elements_of_both_kinds :
-    find elements 8 (text_set inner.Plain) ≡ found.SetOf (owned 8 (ref.Member 1) ∷ owned 8 (ref.Member 2) ∷ [])
+    find elements 8 (text_set inner.Plain) ≡ found.SetOf (owned 8 (ref.Member 1) ∷ owned 8
+    (ref.Member 2) ∷ [])
 unfolding looks_up
 elements_of_both_kinds = refl
 
 pub a_qualified_element_is_of_the_qualified_set :
-    find elements 8 (record { qualifier = Some named; core = core.Set base.Text inner.Plain }) ≡ found.SetOf (owned 8 (ref.Member 3) ∷ [])
+    find elements 8 (record { qualifier = Some named; core = core.Set base.Text inner.Plain })
+    ≡ found.SetOf (owned 8 (ref.Member 3) ∷ [])
 unfolding looks_up
 a_qualified_element_is_of_the_qualified_set = refl
 
@@ -431,7 +449,8 @@ abbrev overridden : Doc
 overridden =
     doc_of (inject_line None (codes "Db")
     ∷ module_line (codes "M")
-    ∷ item.Binds None None (codes "b") (record { name = codes "p"; shape = class_use (codes "Db") }) (class_use (codes "Db"))
+    ∷ item.Binds None None (codes "b") (record { name = codes "p"; shape = class_use (codes "Db") })
+    (class_use (codes "Db"))
     ∷ item.End
     ∷ component_line (codes "App") (codes "M" ∷ [])
     ∷ item.End

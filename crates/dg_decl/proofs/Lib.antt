@@ -9,3 +9,4 @@ pub mod ExamplesNames
 pub mod HeaderLemmas
 pub mod NodeWalks
 pub mod NodeEquality
+pub mod ExampleShop
