@@ -1,8 +1,8 @@
-use Rattle.std.proofs.Common.{◌≡◌, ◌+◌, ◌-◌, ◌<◌, ◌≤◌, ◌⊎◌, ℕ, zero, suc, List, get_or, cond, ltb, refl, sym, ap, ◌∙◌, subst, inl, inr, ⊎_elim, arith}
+use Rattle.std.proofs.Common.{◌≡◌, ◌+◌, ◌-◌, ◌<◌, ◌≤◌, ◌⊎◌, ℕ, zero, suc, Bool, List, length, get_or, cond, ltb, refl, sym, ap, ◌∙◌, subst, inl, inr, ⊎_elim, arith}
 use Rattle.std.proofs.lemmas.Bool.{cases_eq, cases_lt, cond-true, cond-false, lt-ltb, le-ltb}
 use Rattle.dg_num.specs.declared.graph.Graph.{Graph}
 use Rattle.dg_num.specs.Graph.{node_count, successors, HasEdge, IsSound}
-use Rattle.dg_num.specs.Walks.{Walk, IsOnCycle}
+use Rattle.dg_num.specs.Walks.{Walk, IsOnCycle, IsAcyclic, IsTrueAt, TellsExactly}
 use Rattle.dg_num.proofs.Rows.{node_from_edge}
 
 -- some number below `m` has the value, or none has
@@ -113,3 +113,13 @@ cycle_from_zero graph ranks sound left node lt zero' =
       on = λ x r. let next = left x r.0 r.1 in (next.0, next.1, (sound.in_range x next.0 next.1, next.2));
     } in
     cycle_among graph R leads node (lt, zero')
+
+-- where no node is marked as on a cycle, none is on one
+pub IsAcyclic-from_marks : (graph : Graph) (marks : List Bool)
+    → TellsExactly graph (IsOnCycle (successors graph)) marks
+    → ((node : ℕ) × (node < length marks) × IsTrueAt marks node → ⊥)
+    → IsAcyclic (successors graph)
+IsAcyclic-from_marks graph marks tells none = λ node cycle.
+    let within = node_on_cycle graph node cycle in
+    let marked = (tells.exact node within).1 cycle in
+    none (node, omega (arith, within, tells.for_each_node), marked)

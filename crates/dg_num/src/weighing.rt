@@ -30,7 +30,13 @@ pub fn weights(
     let order = finishing_order(alloc, graph)?;
     let mut weights = vec![in alloc; 0u64; graph.next.len()]?;
     for &node in &order {
-        let weight = sum_above(graph.row(node), own[node as usize], flat, &weights, limit + 1);
+        let weight = sum_above(
+            graph.row(node),
+            own[node as usize],
+            flat,
+            &weights,
+            limit + 1,
+        );
         weights[node as usize] = weight;
     }
     Ok(weights)
@@ -47,7 +53,11 @@ fn sum_above(row: &[u32], own: u64, flat: &[bool], weights: &[u64], most: u64) -
 {
     let mut sum = own.min(most);
     for &node in row {
-        let more = if flat[node as usize] { 1 } else { weights[node as usize] };
+        let more = if flat[node as usize] {
+            1
+        } else {
+            weights[node as usize]
+        };
         sum = (sum + more).min(most);
     }
     sum
