@@ -1,4 +1,5 @@
-use Rattle.std.specs.Prelude.{◌≡◌, ◌+◌, ◌<◌, ◌≤◌, ◌↔◌, ℕ, zero, suc, Bool, false, IsTrue, List, length, slice_index_or, Contains}
+use Rattle.std.specs.Prelude.{◌≡◌, ◌+◌, ◌<◌, ◌≤◌, ◌↔◌, ℕ, zero, suc, Bool, false, IsTrue, List}
+use Rattle.std.specs.Prelude.{length, slice_index_or, Contains}
 use Rattle.dg_num.specs.declared.graph.Graph.{Graph}
 use Rattle.dg_num.specs.Graph.{node_count, successors}
 

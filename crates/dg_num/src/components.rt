@@ -1,4 +1,6 @@
-ghost use Rattle.std.specs.Prelude.{◌≡◌, ◌+◌, ◌-◌, ◌<◌, ◌≤◌, ◌⊎◌, ◌++◌, ◌∷◌, [], ℕ, All, Contains, IfOk, MatchOption, OnOk, false, true, length, slice_index, slice_index_or, slice_set, take, vec_len};
+ghost use Rattle.std.specs.Prelude.{◌≡◌, ◌+◌, ◌-◌, ◌<◌, ◌≤◌, ◌⊎◌, ◌++◌, ◌∷◌, [], ℕ, All, Contains};
+ghost use Rattle.std.specs.Prelude.{IfOk, MatchOption, OnOk, false, true, length, slice_index};
+ghost use Rattle.std.specs.Prelude.{slice_index_or, slice_set, take, vec_len};
 ghost use Rattle.dg_num.specs.Counts.{count_of, IsReversed};
 ghost use Rattle.dg_num.specs.Graph.{node_count, successors, HasEdge, IsSound};
 ghost use Rattle.dg_num.specs.Walks.{Leads};
@@ -11,9 +13,9 @@ use std::alloc::Global;
 
 /// Numbers the strongly connected components, so that two nodes have one number exactly where walks
 /// lead from each to the other, and no edge leads to a lower number. `turned` is the graph with its
-/// edges turned round. A search in depth puts the nodes into an order, and searches from them in that
-/// order, from its end, against the edges find the components. Time and memory grow with the nodes
-/// and edges.
+/// edges turned round. A search in depth puts the nodes into an order, and searches from them in
+/// that order, from its end, against the edges find the components. Time and memory grow with the
+/// nodes and edges.
 pub(crate) fn component_numbers(
     alloc: Global,
     graph: &Graph,

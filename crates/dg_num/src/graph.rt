@@ -5,9 +5,9 @@ ghost use Rattle.dg_num.specs.Graph.{node_count, row_at, successors, IsSound};
 use crate::memory::NoMemory;
 use std::alloc::Global;
 
-/// A graph over the nodes 0, 1, 2 and so on. An edge may lead back to its own node, and several edges
-/// may join the same two nodes. A graph that is sound has fewer than 2^32 nodes, and its edges lead
-/// to nodes.
+/// A graph over the nodes 0, 1, 2 and so on. An edge may lead back to its own node, and several
+/// edges may join the same two nodes. A graph that is sound has fewer than 2^32 nodes, and its
+/// edges lead to nodes.
 #[derive(Debug, Drop)]
 pub struct Graph {
     /// For each node, in order, the nodes that its edges lead to.

@@ -1,4 +1,5 @@
-ghost use Rattle.std.specs.Prelude.{◌≡◌, ◌≢◌, ◌^◌, ◌<◌, ◌≤◌, ◌↔◌, ℕ, IfOk, IsTrue, SomeIndex, length, slice_index};
+ghost use Rattle.std.specs.Prelude.{◌≡◌, ◌≢◌, ◌^◌, ◌<◌, ◌≤◌, ◌↔◌, ℕ, IfOk, IsTrue, SomeIndex};
+ghost use Rattle.std.specs.Prelude.{length, slice_index};
 ghost use Rattle.dg_num.specs.Graph.{successors, IsSound};
 ghost use Rattle.dg_num.specs.Walks.{IsLeastOnCycle, IsTrueAt, RanksExactly};
 

@@ -1,4 +1,5 @@
-ghost use Rattle.std.specs.Prelude.{◌≡◌, ◌+◌, ◌<◌, ◌↔◌, ◌++◌, ℕ, List, not, All, Contains, IfOk, OnOk, count_by, vec_len};
+ghost use Rattle.std.specs.Prelude.{◌≡◌, ◌+◌, ◌<◌, ◌↔◌, ◌++◌, ℕ, List, not, All, Contains, IfOk};
+ghost use Rattle.std.specs.Prelude.{OnOk, count_by, vec_len};
 ghost use Rattle.dg_num.specs.Graph.{node_count, successors, IsSound};
 ghost use Rattle.dg_num.specs.Walks.{IsTrueAt, IsReached, TellsExactly};
 

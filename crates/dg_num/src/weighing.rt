@@ -1,4 +1,5 @@
-ghost use Rattle.std.specs.Prelude.{◌≡◌, ◌+◌, ◌^◌, ◌<◌, ◌≤◌, ℕ, false, All, IfOk, length, min, slice_index, slice_index_or, sum_by};
+ghost use Rattle.std.specs.Prelude.{◌≡◌, ◌+◌, ◌^◌, ◌<◌, ◌≤◌, ℕ, false, All, IfOk, length, min};
+ghost use Rattle.std.specs.Prelude.{slice_index, slice_index_or, sum_by};
 ghost use Rattle.dg_num.specs.Graph.{node_count, successors, IsSound};
 ghost use Rattle.dg_num.specs.Walks.{IsAcyclic};
 ghost use Rattle.dg_num.specs.Weights.{added, OneWeight, WeightsExactly};
@@ -9,9 +10,8 @@ use crate::memory::NoMemory;
 use std::alloc::Global;
 
 /// The weight of each node: its own size and what each of its edges adds, which is 1 where the edge
-/// leads to a flat node, and else the weight of the node that it leads to. Several edges between two
-/// nodes each add. So a weight bounds the work of a node that works anew for each of its edges, but
-/// keeps what its flat nodes give: a measure of this project's own. A weight past `limit` is given as
+/// leads to a flat node, and else the weight of the node to which it leads. Several edges between
+/// two nodes each add. The measure is this project's own. A weight past `limit` is given as
 /// `limit + 1`, however great the own sizes are. Time and memory grow with the nodes and edges.
 pub fn weights(
     alloc: Global,

@@ -9,5 +9,5 @@ returns c = λ clear.
     let marks = c.in_ok-marks.marks.items in
     let P : List Bool → Type 0 = λ xs. (x : ℕ) × (x < length xs) × IsTrueAt xs x in
     IsAcyclic-from_marks c.args.graph.now marks c.in_ok-marks.ensures.exact (λ some.
-        let marked = c.has_mark.ensures.1 (subst P (sym c.deref.ensures.value) some) in
-        false≢true (sym (ap not marked) ∙ clear))
+    let marked = c.has_mark.ensures.1 (subst P (sym c.deref.ensures.value) some) in
+    false≢true (sym (ap not marked) ∙ clear))
