@@ -3,8 +3,9 @@ use Rattle.std.proofs.Common.{get_or, cond, ltb, refl, sym, ap, ◌∙◌, subst
 use Rattle.std.proofs.lemmas.Bool.{cases_eq, cases_lt, cond-true, cond-false, lt-ltb, le-ltb}
 use Rattle.dg_num.specs.declared.graph.Graph.{Graph}
 use Rattle.dg_num.specs.Graph.{node_count, successors, HasEdge, IsSound}
-use Rattle.dg_num.specs.Walks.{Walk, IsOnCycle, IsAcyclic, IsTrueAt, TellsExactly}
+use Rattle.dg_num.specs.Walks.{Walk, IsOnCycle, IsAcyclic, IsTrueAt, TellsExactly, RanksExactly}
 use Rattle.dg_num.proofs.Rows.{node_from_edge}
+use Rattle.dg_num.proofs.WalkLaws.{off_cycle_from_rank}
 
 -- some number below `m` has the value, or none has
 found_below : (f : ℕ → ℕ) (value m : ℕ) → ((i : ℕ) × (i < m) × (f i ≡ value))
@@ -175,3 +176,10 @@ IsAcyclic-from_marks graph marks tells none = λ node cycle.
     let within = node_on_cycle graph node cycle in
     let marked = (tells.exact node within).1 cycle in
     none (node, omega (arith, within, tells.for_each_node), marked)
+
+-- where each node has a rank, none is on a cycle
+pub IsAcyclic-from_ranks : (graph : Graph) (ranks : List ℕ) → RanksExactly graph ranks
+    → IsAcyclic (successors graph)
+IsAcyclic-from_ranks graph ranks r = λ node cycle.
+    let rank = r.exact node (node_on_cycle graph node cycle) in
+    off_cycle_from_rank graph node (get_or ranks node 0) rank cycle
