@@ -1,6 +1,6 @@
 -- The test of equality of nodes tells whether two nodes are one.
 use Rattle.std.proofs.Common.{◌≡◌, ◌↔◌, ℕ, Bool, true, false, ◌&&◌, nat_eq, refl, sym, ap, ◌∙◌}
-use Rattle.std.proofs.lemmas.Bool.{false≢true, and-true-1, and-true-2, eqb-true, eq-eqb}
+use Rattle.std.proofs.lemmas.Bool.{false≢true, eqb-true, eq-eqb}
 use Rattle.dg_types.specs.declared.key.Key.{Key}
 use Rattle.dg_types.specs.Equality.{same_key}
 use Rattle.dg_types.proofs.EqualityLemmas.{key_decides}
