@@ -8,15 +8,12 @@ ghost use Rattle.dg_top.specs.Runs.{Writes, TakesAtMost, BadLineExactly, Refused
 ghost use Rattle.dg_top.specs.Answers.{Answers, AnswersItems};
 
 use crate::input::{InputFault, read_all};
-use crate::lookup::Declarations;
 use crate::output::write_all;
-use crate::reader::{ReadDocFault, read_doc};
-use crate::report::report;
-use crate::rules::{lines, violations};
 use crate::status::Status;
-use dg_decl::Item;
+use dg_early::{
+    Declarations, Item, NoMemory, ReadDocFault, lines, read_doc, report, violations,
+};
 use dg_io::{Gate, Sink, Source};
-use dg_types::NoMemory;
 use itoa::Buffer;
 use std::alloc::Global;
 
@@ -52,7 +49,7 @@ fn bad_line(alloc: Global, line: u32) -> Result<Answer, NoMemory>
 }
 
 /// The answer to a document with these items: its diagnostics, or else its report.
-#[tactic(auto, unfolding(crate::specs::Rules::diagnostics))]
+#[tactic(auto, unfolding(dg_early::specs::Rules::diagnostics))]
 fn answer_to_items(alloc: Global, items: &[Item]) -> Result<Answer, NoMemory>
     ensures exact { IfOk result (λ a. AnswersItems items.now a.status a.text.items) }
 {
