@@ -5,8 +5,8 @@ use Rattle.dg_early.specs.Evaluation.{body_of_ask, evaluate}
 use Rattle.dg_early.specs.Printing.{Replies}
 use Rattle.dg_early.specs.Report.{replies, asks_of}
 use Rattle.dg_early.proofs.NumberLemmas.{none_reported, other_item, silent_ask, next_reply, all_reported, no_ask, report_ends}
-use Rattle.dg_early.proofs.report.report.Goals as goal
-use Rattle.dg_early.proofs.report.report.Goals.{in-AskLine+in-Some+in_ok-objects, in-AskLine+in_default-body_of_ask, in_default}
+use Rattle.dg_early.proofs.reporting.report.Goals as goal
+use Rattle.dg_early.proofs.reporting.report.Goals.{in-AskLine+in-Some+in_ok-objects, in-AskLine+in_default-body_of_ask, in_default}
 
 pub loop-item-init : goal.loop-item-init
 loop-item-init c = rw c.new-out.ensures.items (none_reported c.items-item-items.result.now)

@@ -2,7 +2,7 @@ use Rattle.std.proofs.Common.{◌<◌, length, drop, arith}
 use Rattle.std.proofs.lemmas.List.{length-drop}
 use Rattle.dg_early.specs.Report.{value_limit}
 use Rattle.dg_early.proofs.PrintLemmas.{cut_long}
-use Rattle.dg_early.proofs.report.cut_from.Goals as goal
+use Rattle.dg_early.proofs.reporting.cut_from.Goals as goal
 
 pub returns-in_ok-extend_from_slice-clause-exact : goal.returns-in_ok-extend_from_slice-clause-exact
 returns-in_ok-extend_from_slice-clause-exact c =

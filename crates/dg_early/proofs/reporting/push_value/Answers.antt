@@ -1,5 +1,5 @@
 use Rattle.dg_early.proofs.PrintLemmas.{new_object}
-use Rattle.dg_early.proofs.report.push_value.Goals as goal
+use Rattle.dg_early.proofs.reporting.push_value.Goals as goal
 
 pub returns-in_ok-push_object-in-New : goal.returns-in_ok-push_object-in-New
 returns-in_ok-push_object-in-New c =

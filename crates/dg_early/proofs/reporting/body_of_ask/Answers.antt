@@ -2,7 +2,7 @@ use Rattle.std.proofs.Common.{Some, ap, ◌∙◌, rules}
 use Rattle.dg_early.specs.Lookup.{Binding}
 use Rattle.dg_early.proofs.ComponentBindingLemmas.{no_modules}
 use Rattle.dg_early.proofs.EvaluationLemmas.{body_found}
-use Rattle.dg_early.proofs.report.body_of_ask.Goals as goal
+use Rattle.dg_early.proofs.reporting.body_of_ask.Goals as goal
 
 pub returns : goal.returns
 returns c = record {

@@ -1,7 +1,7 @@
 use Rattle.std.proofs.Common.{◌∙◌, refl, append_assoc, arith}
 use Rattle.std.proofs.lemmas.Result.{on_ok_weaker}
 use Rattle.dg_early.proofs.PrintLemmas.{first_then}
-use Rattle.dg_early.proofs.report.push_field_list.Goals as goal
+use Rattle.dg_early.proofs.reporting.push_field_list.Goals as goal
 
 pub returns-clause-exact : goal.returns-clause-exact
 returns-clause-exact c =

@@ -5,7 +5,7 @@ use Rattle.dg_lex.specs.Bytes.{Bytes}
 use Rattle.dg_early.specs.Evaluation as evaluation
 use Rattle.dg_early.specs.Printing as printing
 use Rattle.dg_early.proofs.PrintLemmas.{reply_made}
-use Rattle.dg_early.proofs.report.push_reply.Goals as goal
+use Rattle.dg_early.proofs.reporting.push_reply.Goals as goal
 
 pub cut_from-requires : goal.cut_from-requires
 cut_from-requires c =

@@ -1,7 +1,7 @@
 use Rattle.std.proofs.Common.{◌≡◌, ◌≤◌, ◌++◌, length}
 use Rattle.dg_early.specs.Evaluation as evaluation
 use Rattle.dg_early.specs.Printing as printing
-use Rattle.dg_early.proofs.report.push_later_fields.Given as goal
+use Rattle.dg_early.proofs.reporting.push_later_fields.Given as goal
 
 -- what was printed so far, and what is still printed
 abbrev pub invariant-loop-params : goal.invariant-loop-params
