@@ -1,5 +1,5 @@
-//! The first forms of a document from its bytes to its report: what it declares, how it is read, what it breaks, and
-//! what its asks give. This crate is frozen: it goes when the whole language runs.
+//! The first forms, from a document's bytes to its report: what it declares, how it is read, what it
+//! breaks, and what its asks give. This crate is frozen: it goes when the whole language runs.
 #![tactic(auto)]
 
 mod document;

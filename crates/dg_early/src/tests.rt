@@ -1,6 +1,6 @@
 use crate::{
-    Declarations, Name, NoMemory, ReadDocFault, Shape, Text, TypeUse, evaluation_is_total,
-    lines, one_reading, read_doc, report, violations,
+    Declarations, Name, NoMemory, ReadDocFault, Shape, Text, TypeUse, evaluation_is_total, lines,
+    one_reading, read_doc, report, violations,
 };
 use std::alloc::{AllocError, AllocFailed, Global};
 use std::test::Fail;
@@ -92,7 +92,10 @@ fn refused_memory_is_no_memory(rt: HostRuntime) {
 fn a_document_has_its_items_with_their_lines(rt: HostRuntime) -> Result<(), Fail> {
     let doc = read_doc(rt.alloc(), FIRST)?;
     assert_eq!(rt; doc.items.len(), 9);
-    assert_eq!(rt; doc.lines.as_slice(), [1, 2, 3, 4, 5, 6, 7, 8, 9].as_slice());
+    assert_eq!(rt;
+        doc.lines.as_slice(),
+        [1, 2, 3, 4, 5, 6, 7, 8, 9].as_slice()
+    );
     Ok(())
 }
 
@@ -101,7 +104,10 @@ fn declarations_are_looked_up(rt: HostRuntime) -> Result<(), Fail> {
     let doc = read_doc(rt.alloc(), FIRST)?;
     let declarations = Declarations::of(rt.alloc(), doc.items.as_slice())?;
     assert_eq!(rt; declarations.items().len(), 9);
-    assert_eq!(rt; declarations.params_of(b"Db").map(|params| params.len()), Some(1));
+    assert_eq!(rt;
+        declarations.params_of(b"Db").map(|params| params.len()),
+        Some(1)
+    );
     assert_eq!(rt; declarations.class_of(b"a"), Some(b"App".as_slice()));
     let bound = declarations
         .entry_of(b"App", b"db")
