@@ -1,2 +1,11 @@
 pub mod Document
 pub mod Walks
+pub mod Lines
+pub mod Readers
+pub mod TypeForms
+pub mod ExpressionForms
+pub mod Forms
+pub mod Meaning
+pub mod Blocks
+pub mod Limits
+pub mod Reading
