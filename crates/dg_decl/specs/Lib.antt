@@ -9,3 +9,5 @@ pub mod Meaning
 pub mod Blocks
 pub mod Limits
 pub mod Reading
+pub mod Written
+pub mod Canonical

@@ -1,5 +1,6 @@
 -- Tokens with the bytes that they take, and the values of texts.
 use Rattle.std.specs.Prelude.{ℕ, ◌-◌, Bool, true, false, ◌||◌, if◌then◌else◌, ◌==◌, List, [], ◌∷◌, ◌++◌, length, take, drop, map}
+use Rattle.std.specs.List.{flat_map}
 use Rattle.dg_lex.specs.Bytes.{Bytes}
 use Rattle.dg_lex.specs.Tokens.{spelling_of}
 use Rattle.dg_lex.specs.declared.token.Token.{Token}
@@ -26,11 +27,10 @@ unescaped false (b ∷ z) = if b == 92 then unescaped true z else b ∷ unescape
 unfoldable pub value_of_text : Bytes → Bytes
 value_of_text z = unescaped false (take (length z - 2) (drop 1 z))
 
--- with a `\` before each `"` and `\`
-abbrev pub escaped : Bytes → Bytes
-escaped [] = []
-escaped (b ∷ z) = if b == 34 || b == 92 then 92 ∷ (b ∷ escaped z) else b ∷ escaped z
+-- a byte of a text, with a `\` before `"` and `\`
+abbrev pub escaped : ℕ → Bytes
+escaped b = if b == 34 || b == 92 then 92 ∷ b ∷ [] else b ∷ []
 
 -- the text in quotes whose value this is
 unfoldable pub quoted : Bytes → Bytes
-quoted z = 34 ∷ (escaped z ++ (34 ∷ []))
+quoted z = 34 ∷ flat_map escaped z ++ 34 ∷ []
