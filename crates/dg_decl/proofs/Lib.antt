@@ -1,2 +1,4 @@
 pub mod OneReading
 pub mod LineLemmas
+pub mod ExamplesReading
+pub mod WrittenEquations

@@ -45,10 +45,11 @@ condition_nests (Cond-F.Equal a b) = suc (max a b)
 condition_nests (Cond-F.Less a b) = suc (max a b)
 condition_nests by_name = 1
 
-abbrev pub nesting : Expr → ℕ
+-- how deep an expression nests
+unfoldable pub nesting : Expr → ℕ
 nesting = fold-Expr ℕ ℕ condition_nests expression_nests
 
-abbrev pub condition_nesting : Cond → ℕ
+unfoldable pub condition_nesting : Cond → ℕ
 condition_nesting = fold-Cond ℕ ℕ condition_nests expression_nests
 
 -- of a tree whose subtrees nest so deep; a leaf nests as its expression
@@ -57,7 +58,7 @@ tree_nests (Tree-F.Leaf e) = nesting e
 tree_nests (Tree-F.Await p) = 1
 tree_nests (Tree-F.If c a b) = suc (max (condition_nesting c) (max a b))
 
-abbrev pub tree_nesting : Tree → ℕ
+unfoldable pub tree_nesting : Tree → ℕ
 tree_nesting = fold-Tree ℕ tree_nests
 
 -- what is read nests no deeper than the limit
