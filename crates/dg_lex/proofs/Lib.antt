@@ -1,2 +1,5 @@
 mod NumberLemmas
 pub mod TokenLemmas
+pub mod LongestLemmas
+pub mod OrderLemmas
+pub mod TextLemmas

@@ -4,11 +4,13 @@
 mod extent;
 mod integer;
 mod kind;
+mod laws;
 mod number;
 mod scan;
 mod token;
 
 pub use integer::value_of_integer;
+pub use laws::{bad_places, no_longer_token, quoted_texts, tokens_lie_in_order};
 pub use scan::{spelling, tokens};
 pub use token::{LexFault, Token, TokenKind};
 
