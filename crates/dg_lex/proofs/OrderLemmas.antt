@@ -147,14 +147,14 @@ space_step line at within space = rw (drop_more line at 0 within, space) refl
 token_step : (line : Bytes) (at : ℕ) (o : Option TokenKind) → at < length line → is_space line at ≡ false → kind_of (take (extent (drop at line)) (drop at line)) ≡ o → ((to : ℕ) → at < to → Outcome line to (tokens_from 0 to (drop to line))) → Outcome line at (tokens_from 0 at (drop at line))
 token_step line at None within other found more =
     rw (bad_first at (extent (drop at line)) (drop at line) (omega (arith, length-drop at line)) (not_space at line within other) refl found)
-       record { within = within; no_space = other; no_token = found }
+    record { within = within; no_space = other; no_token = found }
 token_step line at (Some k) within other found more =
     let len = extent (drop at line) in
     let moves : 0 < extent (drop at line) = extent_some (drop at line) (omega (arith, length-drop at line)) in
     let first = token_first at len (drop at line) k (omega (arith, length-drop at line)) (not_space at line within other) refl moves found in
     subst (Outcome line at) first
-      (token_before line (token_from k at len) (tokens_from 0 (at + len) (drop len (drop at line))) (is_token line at len k within refl found)
-        (rw (drop-drop len at line) (more (at + len) (omega arith))))
+    (token_before line (token_from k at len) (tokens_from 0 (at + len) (drop len (drop at line))) (is_token line at len k within refl found)
+    (rw (drop-drop len at line) (more (at + len) (omega arith))))
 
 outcome_at : (line : Bytes) (at : ℕ) (v : Bool) → at < length line → is_space line at ≡ v → ((to : ℕ) → at < to → Outcome line to (tokens_from 0 to (drop to line))) → Outcome line at (tokens_from 0 at (drop at line))
 outcome_at line at true within space more =
