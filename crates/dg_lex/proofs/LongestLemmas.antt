@@ -1,14 +1,14 @@
 -- No front longer than what the token in front takes is a token.
-use Rattle.std.proofs.Common.{ℕ, zero, suc, ◌≡◌, ◌+◌, ◌≤◌, ◌<◌, Bool, true, false, ◌&&◌, ◌==◌, List, [], ◌∷◌, length, take, drop, slice_index, Some, None, length-take-le, refl, sym, ap, ◌∙◌, inl, inr, arith}
-use Rattle.std.specs.Prelude.{if◌then◌else◌, ◌||◌, codes, ◌^◌, nat_lt, nat_le, not}
+use Rattle.std.proofs.Common.{ℕ, zero, suc, ◌≡◌, ◌+◌, ◌≤◌, ◌<◌, Bool, true, false, ◌&&◌, ◌==◌, [], ◌∷◌, length, take, drop, slice_index, None, length-take-le, refl, sym, ap, ◌∙◌, arith}
+use Rattle.std.specs.Prelude.{if◌then◌else◌, ◌||◌, codes, nat_lt, not}
 use Rattle.std.specs.Char.{is_ascii_digit, is_ascii_alphabetic}
 use Rattle.std.specs.Int.{is_in_range}
-use Rattle.std.specs.List.{list_all, list_any, prefix_len}
+use Rattle.std.specs.List.{list_all, prefix_len}
 use Rattle.std.specs.Str.{bytes_eq}
 use Rattle.std.proofs.lemmas.Slice.Eq.{bytes_eq-Decides}
-use Rattle.std.proofs.lemmas.Bool.{and_parts, and_left, and_right, both_ways, eqb-true, false≢true, or_parts}
-use Rattle.dg_lex.specs.Bytes.{Bytes, is_word_byte, is_among, is_plain, name_limit}
-use Rattle.dg_lex.specs.Tokens.{is_name, is_at_name, is_counting, is_integer, is_rest_of_text, is_text, is_sign, kind_of, reserved, quoted_len, extent, value_of_digits}
+use Rattle.std.proofs.lemmas.Bool.{and_right, both_ways, eqb-true, false≢true, or_parts}
+use Rattle.dg_lex.specs.Bytes.{Bytes, is_word_byte, is_among, is_plain}
+use Rattle.dg_lex.specs.Tokens.{is_name, is_at_name, is_counting, is_integer, is_rest_of_text, is_text, is_sign, kind_of, reserved, quoted_len, extent}
 use Rattle.dg_lex.specs.LexLaws.{NoLongerToken}
 
 -- what can't be true is false
