@@ -11,3 +11,13 @@ pub mod Limits
 pub mod Reading
 pub mod Written
 pub mod Canonical
+pub mod Sites
+pub mod Names
+pub mod Components
+pub mod Lookup
+pub mod Stages
+pub mod Bodies
+pub mod Graph
+pub mod Sizes
+pub mod Typing
+pub mod Diagnostics

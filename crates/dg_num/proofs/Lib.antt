@@ -7,3 +7,4 @@ pub mod Rows
 pub mod Searches
 pub mod Visits
 pub mod WalkLaws
+pub mod Weighings

@@ -20,7 +20,7 @@ fresh_start : (graph : Graph) (old : List ℕ) (edges a b : ℕ) → FreshWalk g
 fresh_start graph old zero a b walk = walk.0
 fresh_start graph old (suc edges) a b walk = walk.0
 
-fresh_walk : (graph : Graph) (old : List ℕ) (edges a b : ℕ) → FreshWalk graph old edges a b → Walk graph edges a b
+fresh_walk : (graph : Graph) (old : List ℕ) (edges a b : ℕ) → FreshWalk graph old edges a b → Walk (successors graph) edges a b
 fresh_walk graph old zero a b walk = walk.1
 fresh_walk graph old (suc edges) a b walk = (walk.1.0, walk.1.1, fresh_walk graph old edges walk.1.0 b walk.1.2)
 
@@ -28,13 +28,13 @@ fresh_walk graph old (suc edges) a b walk = (walk.1.0, walk.1.1, fresh_walk grap
 pub record Finished (graph : Graph) (order : List ℕ) : Type 0 where
   pub nodes : All (λ node. node < node_count graph) order
   pub each : (node : ℕ) → node < node_count graph → count_of order node ≡ 1
-  pub edges : (i k after : ℕ) → i ≤ k → k < length order → HasEdge graph (get_or order i 0) after → Contains (take (k + 1) order) after ⊎ Leads graph after (get_or order k 0)
+  pub edges : (i k after : ℕ) → i ≤ k → k < length order → HasEdge graph (get_or order i 0) after → Contains (take (k + 1) order) after ⊎ Leads (successors graph) after (get_or order k 0)
 
 node_place : (graph : Graph) (order : List ℕ) → Finished graph order → (node : ℕ) → node < node_count graph → (k : ℕ) × (k < length order) × (get_or order k 0 ≡ node)
 node_place graph order f node lt = place_of order node (contained_from_count_of order node (omega (arith, f.each node lt)))
 
 -- a walk to the last of the nodes that are not old leads back from it to each of those that are done no later
-leads_back : (graph : Graph) (order old : List ℕ) (j : ℕ) → IsSound graph → Finished graph order → j < length order → ((k : ℕ) → j < k → k < length order → Contains old (get_or order k 0)) → (edges x i k : ℕ) → i ≤ k → k ≤ j → get_or order i 0 ≡ x → FreshWalk graph old edges x (get_or order j 0) → Leads graph (get_or order j 0) (get_or order k 0)
+leads_back : (graph : Graph) (order old : List ℕ) (j : ℕ) → IsSound graph → Finished graph order → j < length order → ((k : ℕ) → j < k → k < length order → Contains old (get_or order k 0)) → (edges x i k : ℕ) → i ≤ k → k ≤ j → get_or order i 0 ≡ x → FreshWalk graph old edges x (get_or order j 0) → Leads (successors graph) (get_or order j 0) (get_or order k 0)
 leads_back graph order old j sound f in-order behind zero x i k ik kj at walk =
     let r = get_or order j 0 in
     let r-lt : r < node_count graph = f.nodes j 0 in-order in
@@ -48,11 +48,11 @@ leads_back graph order old j sound f in-order behind (suc edges) x i k ik kj at 
     (λ (has : Contains (take (k + 1) order) c).
     let q = place_in_front order (k + 1) c has in
     leads_back graph order old j sound f in-order behind edges c q.0 k (omega (arith, q.1)) kj q.3 walk.1.2)
-    (λ (leads : Leads graph c (get_or order k 0)).
+    (λ (leads : Leads (successors graph) c (get_or order k 0)).
     let p = node_place graph order f c (sound.in_range x c walk.1.1) in
     let pj : p.0 ≤ j = ⊎_elim (λ (past : j < p.0). let Q : ℕ → Type 0 = λ y. Contains old y in absurd (fresh_start graph old edges c (get_or order j 0) walk.1.2 (subst Q p.2 (behind p.0 past p.1)))) (λ (le : p.0 ≤ j). le) (cases_lt j p.0) in
     let to-c = leads_back graph order old j sound f in-order behind edges c p.0 p.0 (omega arith) pj p.2 walk.1.2 in
-    let L : ℕ → Type 0 = λ y. Leads graph (get_or order j 0) y in
+    let L : ℕ → Type 0 = λ y. Leads (successors graph) (get_or order j 0) y in
     Leads-trans graph (get_or order j 0) c (get_or order k 0) (subst L p.2 to-c) leads)
     (f.edges i k c ik (omega (arith, kj, in-order)) (subst E (sym at) walk.1.1))
 
@@ -76,7 +76,7 @@ pub record Numbering (graph turned : Graph) (order old : List ℕ) (marks : List
   pub below : (a : ℕ) → Contains old a → get_or numbers a 0 < start
   pub now : (k : ℕ) → start ≤ k → k < next → get_or numbers (get_or queue k 0) 0 ≡ start
   pub edges : (b a : ℕ) → Contains old b → HasEdge turned b a → get_or numbers a 0 ≤ get_or numbers b 0
-  pub same : (a b : ℕ) → Contains old a → Contains old b → get_or numbers a 0 ≡ get_or numbers b 0 → Leads graph a b
+  pub same : (a b : ℕ) → Contains old a → Contains old b → get_or numbers a 0 ≡ get_or numbers b 0 → Leads (successors graph) a b
 
 pub Numbering-start : (graph turned : Graph) (order : List ℕ) (marks : List Bool) (queue numbers : List ℕ) (root : ℕ) → length marks ≡ node_count graph → length numbers ≡ node_count graph → ((v : ℕ) → get_or marks v false ≡ false) → queue ≡ [] → root ≡ length order → Numbering graph turned order (take 0 queue) marks queue numbers 0 0 root
 Numbering-start graph turned order marks queue numbers root n-marks n-numbers none empty root-is =
@@ -194,7 +194,7 @@ pub record Numbered (graph turned : Graph) (queue numbers : List ℕ) : Type 0 w
   pub closed : (b a : ℕ) → Contains queue b → HasEdge turned b a → Contains queue a
   pub below : (a : ℕ) → Contains queue a → get_or numbers a 0 < length queue
   pub edges : (b a : ℕ) → Contains queue b → HasEdge turned b a → get_or numbers a 0 ≤ get_or numbers b 0
-  pub same : (a b : ℕ) → Contains queue a → Contains queue b → get_or numbers a 0 ≡ get_or numbers b 0 → Leads graph a b
+  pub same : (a b : ℕ) → Contains queue a → Contains queue b → get_or numbers a 0 ≡ get_or numbers b 0 → Leads (successors graph) a b
 
 pub Numbered-component : (graph turned : Graph) (order old : List ℕ) (marks : List Bool) (queue numbers : List ℕ) (next start root : ℕ) → IsSound graph → Finished graph order → Numbering graph turned order old marks queue numbers next start root → length queue ≤ next → Numbered graph turned queue numbers
 Numbered-component graph turned order old marks queue numbers next start root sound f n done =
@@ -231,7 +231,7 @@ Numbered-component graph turned order old marks queue numbers next start root so
           let P : ℕ → Type 0 = λ x. Contains old x in
           let pr : p.0 ≤ root = ⊎_elim (λ (past : root < p.0). absurd (fresh_start graph old from-b.0 b root-node from-b.1 (subst P p.2 (n.behind p.0 past p.1)))) (λ (le : p.0 ≤ root). le) (cases_lt root p.0) in
           let back = leads_back graph order old root sound f in-order n.behind from-b.0 b p.0 p.0 (omega arith) pr p.2 from-b.1 in
-          let L : ℕ → Type 0 = λ x. Leads graph root-node x in
+          let L : ℕ → Type 0 = λ x. Leads (successors graph) root-node x in
           Leads-trans graph a root-node b (from-a.0, fresh_walk graph old from-a.0 a root-node from-a.1) (subst L p.2 back))
           (place b hb))
           (place a ha);

@@ -1,7 +1,7 @@
 use Rattle.std.proofs.Common.{◌≡◌, ◌+◌, ◌-◌, ◌<◌, ◌≤◌, ◌⊎◌, ℕ, zero, suc, List, get_or, cond, ltb, refl, sym, ap, ◌∙◌, subst, inl, inr, ⊎_elim, arith}
 use Rattle.std.proofs.lemmas.Bool.{cases_eq, cases_lt, cond-true, cond-false, lt-ltb, le-ltb}
 use Rattle.dg_num.specs.declared.graph.Graph.{Graph}
-use Rattle.dg_num.specs.Graph.{node_count, HasEdge, IsSound}
+use Rattle.dg_num.specs.Graph.{node_count, successors, HasEdge, IsSound}
 use Rattle.dg_num.specs.Walks.{Walk, IsOnCycle}
 use Rattle.dg_num.proofs.Rows.{node_from_edge}
 
@@ -76,7 +76,7 @@ far_on : (graph : Graph) (R : ℕ → Type 0) → LeadsOn graph R → ((node : �
 far_on graph R leads s zero = s
 far_on graph R leads s (suc k) = far_on graph R leads (one_on graph R leads s) k
 
-walk_on : (graph : Graph) (R : ℕ → Type 0) (leads : LeadsOn graph R) (s : (node : ℕ) × R node) (k : ℕ) → Walk graph k s.0 (far_on graph R leads s k).0
+walk_on : (graph : Graph) (R : ℕ → Type 0) (leads : LeadsOn graph R) (s : (node : ℕ) × R node) (k : ℕ) → Walk (successors graph) k s.0 (far_on graph R leads s k).0
 unfolding one_on far_on
 walk_on graph R leads s zero = refl
 walk_on graph R leads s (suc k) = ((one_on graph R leads s).0, (leads.on s.0 s.1).1, walk_on graph R leads (one_on graph R leads s) k)
@@ -87,7 +87,7 @@ far_on-add graph R leads s zero d k e = let same : k ≡ d = omega arith in ap (
 far_on-add graph R leads s (suc i) d zero e = absurd (omega arith)
 far_on-add graph R leads s (suc i) d (suc k) e = far_on-add graph R leads (one_on graph R leads s) i d k (omega arith)
 
-pub cycle_among : (graph : Graph) (R : ℕ → Type 0) → LeadsOn graph R → (node : ℕ) → R node → (other : ℕ) × IsOnCycle graph other
+pub cycle_among : (graph : Graph) (R : ℕ → Type 0) → LeadsOn graph R → (node : ℕ) → R node → (other : ℕ) × IsOnCycle (successors graph) other
 cycle_among graph R leads node r =
     let s : (node : ℕ) × R node = (node, r) in
     let f : ℕ → ℕ = λ k. (far_on graph R leads s k).0 in
@@ -96,16 +96,16 @@ cycle_among graph R leads node r =
     let j = found.1 in
     let u = far_on graph R leads s i in
     let again : f j ≡ (far_on graph R leads u (j - i)).0 = ap (λ x. x.0) (far_on-add graph R leads s i (j - i) j (omega (arith, found.2))) in
-    let P : ℕ → Type 0 = λ x. Walk graph (j - i) u.0 x in
+    let P : ℕ → Type 0 = λ x. Walk (successors graph) (j - i) u.0 x in
     (u.0, (j - i, omega (arith, found.2), subst P (sym again ∙ sym found.4) (walk_on graph R leads u (j - i))))
 
 -- a node on a cycle is a node of the graph
-pub node_on_cycle : (graph : Graph) (node : ℕ) → IsOnCycle graph node → node < node_count graph
+pub node_on_cycle : (graph : Graph) (node : ℕ) → IsOnCycle (successors graph) node → node < node_count graph
 node_on_cycle graph node (zero, le, walk) = absurd (omega arith)
 node_on_cycle graph node (suc k, le, walk) = node_from_edge graph node walk.0 walk.1
 
 -- where each node without a rank leads to one without a rank, some node lies on a cycle
-pub cycle_from_zero : (graph : Graph) (ranks : List ℕ) → IsSound graph → ((node : ℕ) → node < node_count graph → get_or ranks node 0 ≡ 0 → (after : ℕ) × HasEdge graph node after × (get_or ranks after 0 ≡ 0)) → (node : ℕ) → node < node_count graph → get_or ranks node 0 ≡ 0 → (other : ℕ) × IsOnCycle graph other
+pub cycle_from_zero : (graph : Graph) (ranks : List ℕ) → IsSound graph → ((node : ℕ) → node < node_count graph → get_or ranks node 0 ≡ 0 → (after : ℕ) × HasEdge graph node after × (get_or ranks after 0 ≡ 0)) → (node : ℕ) → node < node_count graph → get_or ranks node 0 ≡ 0 → (other : ℕ) × IsOnCycle (successors graph) other
 cycle_from_zero graph ranks sound left node lt zero' =
     let R : ℕ → Type 0 = λ x. (x < node_count graph) × (get_or ranks x 0 ≡ 0) in
     let leads : LeadsOn graph R = record {

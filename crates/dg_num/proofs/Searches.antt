@@ -11,7 +11,7 @@ use Rattle.dg_num.proofs.WalkLaws.{kept_along, IsReached-edge}
 pub record Searched (graph : Graph) (from : List ℕ) (marks : List Bool) (queue : List ℕ) (next : ℕ) : Type 0 where
   pub for_each_node : length marks ≡ node_count graph
   pub marked : (v : ℕ) → IsTrueAt marks v ↔ Contains queue v
-  pub sound : (v : ℕ) → Contains queue v → IsReached graph from v
+  pub sound : (v : ℕ) → Contains queue v → IsReached (successors graph) from v
   pub starts : All (IsTrueAt marks) from
   pub closed : (k b : ℕ) → k < next → HasEdge graph (get_or queue k 0) b → IsTrueAt marks b
   pub within : next ≤ length queue
@@ -39,7 +39,7 @@ Searched-step graph from marks marks' queue queue' added next s lt len marked is
       within = omega (arith, ap length is, length-append queue added);
     }
 
-pub Searched-end : (graph : Graph) (from : List ℕ) (marks : List Bool) (queue : List ℕ) (next : ℕ) → Searched graph from marks queue next → length queue ≤ next → TellsExactly graph (IsReached graph from) marks
+pub Searched-end : (graph : Graph) (from : List ℕ) (marks : List Bool) (queue : List ℕ) (next : ℕ) → Searched graph from marks queue next → length queue ≤ next → TellsExactly graph (IsReached (successors graph) from) marks
 Searched-end graph from marks queue next s done =
     let closed : (a b : ℕ) → IsTrueAt marks a → HasEdge graph a b → IsTrueAt marks b = λ a b m edge. let has = (s.marked a).0 m in let P : ℕ → Type 0 = λ x. HasEdge graph x b in s.closed has.0 b (omega (arith, has.1)) (subst P (sym (default_is queue has.0 a has.1 has.2)) edge) in
     record {

@@ -19,8 +19,8 @@ pub record Visiting (graph : Graph) (seen : List Bool) (left path order : List �
   pub looked : (v k : ℕ) → get_or left v 0 ≤ k → k < length (successors graph v) → IsTrueAt seen (get_or (successors graph v) k 0)
   pub counts : (v : ℕ) → count_of order v + count_of path v ≡ one_if (get_or seen v false)
   pub done : (v : ℕ) → Contains order v → get_or left v 0 ≡ 0
-  pub joined : (i j : ℕ) → i ≤ j → j < length path → Leads graph (get_or path i 0) (get_or path j 0)
-  pub edges : (i k after : ℕ) → i ≤ k → k < length order → HasEdge graph (get_or order i 0) after → Contains (take (k + 1) order) after ⊎ Leads graph after (get_or order k 0)
+  pub joined : (i j : ℕ) → i ≤ j → j < length path → Leads (successors graph) (get_or path i 0) (get_or path j 0)
+  pub edges : (i k after : ℕ) → i ≤ k → k < length order → HasEdge graph (get_or order i 0) after → Contains (take (k + 1) order) after ⊎ Leads (successors graph) after (get_or order k 0)
 
 pub Visiting-start : (graph : Graph) (seen : List Bool) (left path order : List ℕ) → length seen ≡ node_count graph → length left ≡ node_count graph → ((v : ℕ) → get_or left v 0 ≡ length (successors graph v)) → ((v : ℕ) → get_or seen v false ≡ false) → path ≡ [] → order ≡ [] → Visiting graph seen left path order
 Visiting-start graph seen left path order n-seen n-left full none no-path no-order = record {
@@ -42,7 +42,7 @@ Visiting-node graph seen left path order s v some =
     (λ (none : get_or seen v false ≡ false). absurd (omega (arith, some, s.counts v, ap one_if none)))
     (cases_Bool (get_or seen v false))
 
-visiting_push : (graph : Graph) (seen : List Bool) (left path order : List ℕ) (node : ℕ) → Visiting graph seen left path order → node < node_count graph → ((i : ℕ) → i < length path → Leads graph (get_or path i 0) node) → get_or seen node false ≡ false → Visiting graph (set seen node true) left (path ++ node ∷ []) order
+visiting_push : (graph : Graph) (seen : List Bool) (left path order : List ℕ) (node : ℕ) → Visiting graph seen left path order → node < node_count graph → ((i : ℕ) → i < length path → Leads (successors graph) (get_or path i 0) node) → get_or seen node false ≡ false → Visiting graph (set seen node true) left (path ++ node ∷ []) order
 visiting_push graph seen left path order node s in-graph leads none =
     let lt : node < length seen = omega (arith, in-graph, s.for_seen) in
     let front : (i : ℕ) → i < length path → get_or (path ++ node ∷ []) i 0 ≡ get_or path i 0 = λ i h. get_or_append_left path (node ∷ []) 0 i h in
@@ -61,12 +61,12 @@ visiting_push graph seen left path order node s in-graph leads none =
       joined = λ i j le h.
           ⊎_elim
           (λ (jl : j < length path).
-          let P : ℕ → ℕ → Type 0 = λ a b. Leads graph a b in
+          let P : ℕ → ℕ → Type 0 = λ a b. Leads (successors graph) a b in
           subst (λ a. P a (get_or (path ++ node ∷ []) j 0)) (sym (front i (omega arith))) (subst (λ b. P (get_or path i 0) b) (sym (front j jl)) (s.joined i j le jl)))
           (λ (jg : length path ≤ j).
           let ej : length path ≡ j = omega (arith, h, jg, length_push path node) in
           let at-j : get_or (path ++ node ∷ []) j 0 ≡ node = ap (λ x. get_or (path ++ node ∷ []) x 0) (sym ej) ∙ last in
-          let P : ℕ → ℕ → Type 0 = λ a b. Leads graph a b in
+          let P : ℕ → ℕ → Type 0 = λ a b. Leads (successors graph) a b in
           ⊎_elim
           (λ (il : i < length path). subst (λ a. P a (get_or (path ++ node ∷ []) j 0)) (sym (front i il)) (subst (λ b. P (get_or path i 0) b) (sym at-j) (leads i il)))
           (λ (ig : length path ≤ i). let same : i ≡ j = omega (arith, le, ig, ej) in (0, ap (λ x. get_or (path ++ node ∷ []) x 0) same))
@@ -76,7 +76,7 @@ visiting_push graph seen left path order node s in-graph leads none =
     }
 
 -- a node is put at the end of the path, if it wasn't seen before
-pub Visiting-enter : (graph : Graph) (seen seen' : List Bool) (left path path' order : List ℕ) (node : ℕ) → Visiting graph seen left path order → node < node_count graph → ((i : ℕ) → i < length path → Leads graph (get_or path i 0) node) → ((get_or seen node false ≡ true) × (seen' ≡ seen) × (path' ≡ path)) ⊎ ((get_or seen node false ≡ false) × (seen' ≡ set seen node true) × (path' ≡ path ++ node ∷ [])) → Visiting graph seen' left path' order × IsTrueAt seen' node × ((v : ℕ) → IsTrueAt seen v → IsTrueAt seen' v) × (length path' ≤ length path + 1)
+pub Visiting-enter : (graph : Graph) (seen seen' : List Bool) (left path path' order : List ℕ) (node : ℕ) → Visiting graph seen left path order → node < node_count graph → ((i : ℕ) → i < length path → Leads (successors graph) (get_or path i 0) node) → ((get_or seen node false ≡ true) × (seen' ≡ seen) × (path' ≡ path)) ⊎ ((get_or seen node false ≡ false) × (seen' ≡ set seen node true) × (path' ≡ path ++ node ∷ [])) → Visiting graph seen' left path' order × IsTrueAt seen' node × ((v : ℕ) → IsTrueAt seen v → IsTrueAt seen' v) × (length path' ≤ length path + 1)
 Visiting-enter graph seen seen' left path path' order node s in-graph leads cases =
     let lt : node < length seen = omega (arith, in-graph, s.for_seen) in
     let P : List Bool → List ℕ → Type 0 = λ ss ps. Visiting graph ss left ps order × IsTrueAt ss node × ((v : ℕ) → IsTrueAt seen v → IsTrueAt ss v) × (length ps ≤ length path + 1) in
@@ -144,17 +144,17 @@ Visiting-finish graph seen left path rest order order' node s path-is none order
           (cases_eq node v);
       done = done;
       joined = λ i j le h.
-          let Q : ℕ → ℕ → Type 0 = λ a b. Leads graph a b in
+          let Q : ℕ → ℕ → Type 0 = λ a b. Leads (successors graph) a b in
           subst (λ a. Q a (get_or rest j 0)) (front i (omega arith)) (subst (λ b. Q (get_or path i 0) b) (front j h) (s.joined i j le (omega (arith, h, lens))));
       edges = λ i k after le h edge.
           ⊎_elim
           (λ (before : k < n).
           let E : ℕ → Type 0 = λ x. HasEdge graph x after in
           let T : List ℕ → Type 0 = λ xs. Contains xs after in
-          let L : ℕ → Type 0 = λ x. Leads graph after x in
+          let L : ℕ → Type 0 = λ x. Leads (successors graph) after x in
           ⊎_elim
           (λ (c : Contains (take (k + 1) order) after). inl (subst T (sym (take-append-le (k + 1) order (node ∷ []) (omega arith))) c))
-          (λ (l : Leads graph after (get_or order k 0)). inr (subst L (sym (old k before)) l))
+          (λ (l : Leads (successors graph) after (get_or order k 0)). inr (subst L (sym (old k before)) l))
           (s.edges i k after le before (subst E (old i (omega arith)) edge)))
           (λ (at : n ≤ k).
           let ek : n ≡ k = omega (arith, at, h, long) in
@@ -170,7 +170,7 @@ Visiting-finish graph seen left path rest order order' node s path-is none order
           let on-path = place_of path after (contained_from_count_of path after (omega (arith, s.counts after, ap one_if marked, not-yet))) in
           let leads = s.joined on-path.0 (length rest) (omega (arith, on-path.1, lens)) (omega (arith, lens)) in
           let at-k : node ≡ get_or whole k 0 = sym new ∙ ap (λ x. get_or whole x 0) ek in
-          let Q : ℕ → ℕ → Type 0 = λ a b. Leads graph a b in
+          let Q : ℕ → ℕ → Type 0 = λ a b. Leads (successors graph) a b in
           inr (subst (λ b. Q after b) (top ∙ at-k) (subst (λ a. Q a (get_or path (length rest) 0)) on-path.2 leads)))
           (cases_lt 0 (count_of order after)))
           (cases_lt k n);
@@ -188,9 +188,9 @@ pub Visiting-top : (graph : Graph) (seen : List Bool) (left path rest order : Li
 Visiting-top graph seen left path rest order node s is = Visiting-node graph seen left path order s node (omega (arith, ap (λ xs. count_of xs node) is, count_of-push_same rest node node refl))
 
 -- all nodes of the path lead to where an edge of the last one leads
-pub Visiting-leads : (graph : Graph) (seen : List Bool) (left path rest order : List ℕ) (node after : ℕ) → Visiting graph seen left path order → path ≡ rest ++ node ∷ [] → HasEdge graph node after → (i : ℕ) → i < length path → Leads graph (get_or path i 0) after
+pub Visiting-leads : (graph : Graph) (seen : List Bool) (left path rest order : List ℕ) (node after : ℕ) → Visiting graph seen left path order → path ≡ rest ++ node ∷ [] → HasEdge graph node after → (i : ℕ) → i < length path → Leads (successors graph) (get_or path i 0) after
 Visiting-leads graph seen left path rest order node after s is edge i lt =
     let lens : length path ≡ length rest + 1 = ap length is ∙ length_push rest node in
     let top : get_or path (length rest) 0 ≡ node = ap (λ xs. get_or xs (length rest) 0) is ∙ get_or_push rest node 0 (length rest) refl in
-    let L : ℕ → Type 0 = λ x. Leads graph (get_or path i 0) x in
+    let L : ℕ → Type 0 = λ x. Leads (successors graph) (get_or path i 0) x in
     Leads-trans graph (get_or path i 0) node after (subst L top (s.joined i (length rest) (omega (arith, lt, lens)) (omega (arith, lens)))) (Leads-edge graph node after edge)

@@ -1,3 +1,4 @@
 pub mod Counts
 pub mod Graph
 pub mod Walks
+pub mod Weights

@@ -25,7 +25,7 @@ pub(crate) fn component_numbers(
         → slice_index numbers.items a ≤ slice_index numbers.items b) }
     ensures same { IfOk result (λ numbers. (a b : ℕ)
         → a < node_count graph.now → b < node_count graph.now
-        → slice_index numbers.items a ≡ slice_index numbers.items b → Leads graph.now a b) }
+        → slice_index numbers.items a ≡ slice_index numbers.items b → Leads (successors graph.now) a b) }
 {
     let order = finishing_order(alloc, graph)?;
     let mut numbers = vec![in alloc; 0usize; graph.next.len()]?;
@@ -52,14 +52,14 @@ pub(crate) fn component_numbers(
 
 /// The nodes in the order in which a search in depth leaves them. So an edge from one of the first nodes leads
 /// to one of them, or back to a node from which a walk leads to the last of them.
-fn finishing_order(alloc: Global, graph: &Graph) -> Result<Vec<u32>, NoMemory>
+pub(crate) fn finishing_order(alloc: Global, graph: &Graph) -> Result<Vec<u32>, NoMemory>
     requires { IsSound graph.now }
     ensures nodes { IfOk result (λ order. All (λ node. node < node_count graph.now) order.items) }
     ensures each { IfOk result (λ order. (node : ℕ) → node < node_count graph.now
         → count_of order.items node ≡ 1) }
     ensures edges { IfOk result (λ order. (i k after : ℕ) → i ≤ k → k < length order.items
         → HasEdge graph.now (slice_index order.items i) after
-        → Contains (take (k + 1) order.items) after ⊎ Leads graph.now after (slice_index order.items k)) }
+        → Contains (take (k + 1) order.items) after ⊎ Leads (successors graph.now) after (slice_index order.items k)) }
 {
     let mut left = row_lengths(alloc, graph)?;
     let mut seen = vec![in alloc; false; graph.next.len()]?;

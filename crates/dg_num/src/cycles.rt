@@ -1,6 +1,6 @@
 ghost use Rattle.std.specs.Prelude.{◌≡◌, ◌<◌, ◌↔◌, ℕ, All, Contains, IfOk, IsTrue, length, slice_index};
 ghost use Rattle.dg_num.specs.Counts.{IsReversed};
-ghost use Rattle.dg_num.specs.Graph.{IsSound};
+ghost use Rattle.dg_num.specs.Graph.{successors, IsSound};
 ghost use Rattle.dg_num.specs.Walks.{IsOnCycle, TellsExactly};
 
 use crate::components::component_numbers;
@@ -13,7 +13,7 @@ use std::alloc::Global;
 pub fn on_cycle(alloc: Global, graph: &Graph) -> Result<Vec<bool>, NoMemory>
     requires { IsSound graph.now }
     ensures exact { IfOk result
-        (λ marks. TellsExactly graph.now (IsOnCycle graph.now) marks.items) }
+        (λ marks. TellsExactly graph.now (IsOnCycle (successors graph.now)) marks.items) }
 {
     marks_on_cycle(alloc, graph, &reversed(alloc, graph)?)
 }
@@ -27,7 +27,7 @@ pub(crate) fn marks_on_cycle(
     requires graph { IsSound graph.now }
     requires turned { IsReversed graph.now turned.now }
     ensures exact { IfOk result
-        (λ marks. TellsExactly graph.now (IsOnCycle graph.now) marks.items) }
+        (λ marks. TellsExactly graph.now (IsOnCycle (successors graph.now)) marks.items) }
 {
     let numbers = component_numbers(alloc, graph, turned)?;
     let mut marks = Vec::with_capacity(alloc, graph.next.len())?;

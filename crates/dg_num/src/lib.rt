@@ -1,5 +1,5 @@
-//! Graphs whose nodes are numbers: which nodes walks reach, which lie on cycles, and how long the longest
-//! walks are.
+//! Graphs whose nodes are numbers: which nodes walks reach, which lie on cycles, how long the longest walks
+//! are, and what the nodes weigh with all that they lead to.
 #![tactic(auto)]
 
 mod components;
@@ -9,12 +9,14 @@ mod memory;
 mod peeling;
 mod ranking;
 mod reached;
+mod weighing;
 
 pub use cycles::on_cycle;
 pub use graph::Graph;
 pub use memory::NoMemory;
 pub use ranking::{RankFault, ranks};
 pub use reached::reach;
+pub use weighing::{one_weight, weights};
 
 #[cfg(test)]
 mod tests;

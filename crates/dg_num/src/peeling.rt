@@ -15,7 +15,7 @@ pub(crate) fn peel(alloc: Global, graph: &Graph, turned: &Graph) -> Result<Vec<u
     requires turned { IsReversed graph.now turned.now }
     ensures len { IfOk result (λ ranks. vec_len ranks ≡ node_count graph.now) }
     ensures ranked { IfOk result (λ ranks. (node : ℕ) → slice_index ranks.items node ≢ 0
-        → IsRank graph.now node (slice_index ranks.items node)) }
+        → IsRank (successors graph.now) node (slice_index ranks.items node)) }
     ensures left { IfOk result (λ ranks. (node : ℕ) → node < node_count graph.now
         → slice_index ranks.items node ≡ 0
         → (after : ℕ) × HasEdge graph.now node after × (slice_index ranks.items after ≡ 0)) }

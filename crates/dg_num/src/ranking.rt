@@ -1,5 +1,5 @@
 ghost use Rattle.std.specs.Prelude.{◌≡◌, ◌≢◌, ◌^◌, ◌<◌, ◌≤◌, ◌↔◌, ℕ, IfOk, IsTrue, SomeIndex, length, slice_index};
-ghost use Rattle.dg_num.specs.Graph.{IsSound};
+ghost use Rattle.dg_num.specs.Graph.{successors, IsSound};
 ghost use Rattle.dg_num.specs.Walks.{IsLeastOnCycle, IsTrueAt, RanksExactly};
 
 use crate::cycles::marks_on_cycle;
@@ -33,7 +33,7 @@ pub fn ranks(alloc: Global, graph: &Graph) -> Result<Vec<u32>, RankFault>
     requires { IsSound graph.now }
     ensures exact { IfOk result (λ ranks. RanksExactly graph.now ranks.items) }
     ensures cause { result ≢ Err RankFault.NoMemory
-        → (node : ℕ) → (result ≡ Err (RankFault.Cyclic node)) ↔ IsLeastOnCycle graph.now node }
+        → (node : ℕ) → (result ≡ Err (RankFault.Cyclic node)) ↔ IsLeastOnCycle (successors graph.now) node }
 {
     let turned = reversed(alloc, graph)?;
     let ranks = peel(alloc, graph, &turned)?;

@@ -1,5 +1,5 @@
 ghost use Rattle.std.specs.Prelude.{◌≡◌, ◌+◌, ◌<◌, ◌↔◌, ◌++◌, ℕ, List, not, All, Contains, IfOk, OnOk, count_by, vec_len};
-ghost use Rattle.dg_num.specs.Graph.{node_count, IsSound};
+ghost use Rattle.dg_num.specs.Graph.{node_count, successors, IsSound};
 ghost use Rattle.dg_num.specs.Walks.{IsTrueAt, IsReached, TellsExactly};
 
 use crate::graph::Graph;
@@ -12,7 +12,7 @@ pub fn reach(alloc: Global, graph: &Graph, from: &[u32]) -> Result<Vec<bool>, No
     requires graph { IsSound graph.now }
     requires from { All (λ node. node < node_count graph.now) from.now }
     ensures exact { IfOk result
-        (λ marks. TellsExactly graph.now (IsReached graph.now from.now) marks.items) }
+        (λ marks. TellsExactly graph.now (IsReached (successors graph.now) from.now) marks.items) }
 {
     let mut marks = vec![in alloc; false; graph.next.len()]?;
     let mut queue = Vec::new(alloc);

@@ -1,0 +1,4 @@
+pub mod Bytes
+pub mod Equality
+pub mod Requests
+pub mod Texts

@@ -3,7 +3,7 @@ use crate::shape::Qualifier;
 use crate::text::Text;
 
 /// A type without parts: that of a text, of an integer, or of a class or interface.
-#[derive(Drop)]
+#[derive(Clone, Drop, PartialEq, Eq, PartialOrd, Ord, Hash)]
 pub enum Base {
     Text,
     Int,
@@ -11,7 +11,7 @@ pub enum Base {
 }
 
 /// The type of a map's keys.
-#[derive(Clone, Copy, Debug)]
+#[derive(Clone, Copy, Debug, PartialEq, Eq, PartialOrd, Ord, Hash)]
 pub enum MapKind {
     Text,
     Int,
@@ -19,7 +19,7 @@ pub enum MapKind {
 
 /// What a set holds, a map gives or an optional has inside, over its base type: the value itself, or a way to it. The
 /// order of the variants is the order in which nodes of one line stand.
-#[derive(Clone, Copy, Debug)]
+#[derive(Clone, Copy, Debug, PartialEq, Eq, PartialOrd, Ord, Hash)]
 pub enum Inner {
     /// The value.
     Plain,
@@ -34,7 +34,7 @@ pub enum Inner {
 }
 
 /// The type of a key: a base type, or a set, map or optional of one.
-#[derive(Drop)]
+#[derive(Clone, Drop, PartialEq, Eq, PartialOrd, Ord, Hash)]
 pub enum Core {
     One(Base),
     Set(Base, Inner),
@@ -43,7 +43,7 @@ pub enum Core {
 }
 
 /// How a request asks for what its key is bound to.
-#[derive(Clone, Copy, Debug)]
+#[derive(Clone, Copy, Debug, PartialEq, Eq, Hash)]
 pub enum Mode {
     /// The value itself.
     Instance,
@@ -60,21 +60,21 @@ pub enum Mode {
 }
 
 /// What a binding binds and a request asks for, after Dagger: a type with at most one qualifier.
-#[derive(Drop)]
+#[derive(Drop, PartialEq, Eq, PartialOrd, Ord, Hash)]
 pub struct Key {
     pub qualifier: Option<Qualifier>,
     pub core: Core,
 }
 
 /// What a parameter or an entry point asks for: a key, and in which form.
-#[derive(Drop)]
+#[derive(Drop, PartialEq, Eq)]
 pub struct Request {
     pub mode: Mode,
     pub key: Key,
 }
 
 /// The key of an entry of a map.
-#[derive(Drop)]
+#[derive(Drop, PartialEq, Eq, Hash)]
 pub enum MapKeyVal {
     Text(Text),
     Int(i64),

@@ -29,7 +29,7 @@ pub enum Shape {
 }
 
 /// A qualifier in front of a type, after JSR 330: `@N`, or `@N("x")` with a text as its member.
-#[derive(Drop)]
+#[derive(Clone, Drop, PartialEq, Eq, PartialOrd, Ord, Hash)]
 pub struct Qualifier {
     pub name: Name,
     pub member: Option<Text>,

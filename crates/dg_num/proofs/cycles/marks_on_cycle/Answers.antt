@@ -1,7 +1,7 @@
 use Rattle.std.proofs.Common.{◌≡◌, ◌<◌, ◌≤◌, ◌↔◌, length, ℕ, List, true, get_or, Contains, sym, ap, ◌∙◌, subst, arith}
 use Rattle.std.proofs.lemmas.List.{get_or_read}
 use Rattle.std.proofs.lemmas.List.Elements.{Contains-get_or}
-use Rattle.dg_num.specs.Graph.{node_count, HasEdge}
+use Rattle.dg_num.specs.Graph.{node_count, successors, HasEdge}
 use Rattle.dg_num.specs.Walks.{IsOnCycle}
 use Rattle.dg_num.proofs.Marks.{marks_exact-push}
 use Rattle.dg_num.proofs.WalkLaws.{kept_along, IsOnCycle-from_leads, first_on_cycle}
@@ -24,7 +24,7 @@ loop-node-preserved c =
     let given : c.deref.result.now ≡ numbers = c.deref.ensures.value in
     let within : node < node_count graph = omega arith in
     let read : c.index-number.result.now ≡ get_or numbers node 0 = get_or_read numbers node c.index-number.result.now (omega (arith, within, c.in_ok-numbers.ensures.len)) c.index-number.ensures 0 in
-    let decided : (on ≡ true) ↔ IsOnCycle graph node = (
+    let decided : (on ≡ true) ↔ IsOnCycle (successors graph) node = (
       λ yes.
           let found = c.has_number.ensures.exact.0 yes in
           let after = found.0 in
@@ -42,5 +42,5 @@ loop-node-preserved c =
     ) in
     record {
       len = omega (arith, c.in_ok-push.ensures.len, c.loop-node.invariant.len);
-      exact = marks_exact-push (IsOnCycle graph) c.loop-node.marks.items c.push.new.self.items node on (omega (arith, c.loop-node.invariant.len)) c.in_ok-push.ensures.items c.loop-node.invariant.exact decided;
+      exact = marks_exact-push (IsOnCycle (successors graph)) c.loop-node.marks.items c.push.new.self.items node on (omega (arith, c.loop-node.invariant.len)) c.in_ok-push.ensures.items c.loop-node.invariant.exact decided;
     }

@@ -1,7 +1,7 @@
 use Rattle.std.proofs.Common.{◌≡◌, ◌<◌, length, ℕ, List, Bool, Err, get_or, sym, ap, ◌∙◌, subst, arith}
 use Rattle.std.proofs.lemmas.Bool.{false≢true}
 use Rattle.dg_num.specs.declared.ranking.RankFault.TheVariants.{Cyclic}
-use Rattle.dg_num.specs.Graph.{node_count}
+use Rattle.dg_num.specs.Graph.{node_count, successors}
 use Rattle.dg_num.specs.Walks.{IsLeastOnCycle, IsTrueAt}
 use Rattle.dg_num.proofs.Marks.{marked_within}
 use Rattle.dg_num.proofs.Repeats.{cycle_from_zero, node_on_cycle}
@@ -29,11 +29,11 @@ returns-then-has_zero-clause-cause c = λ memory node.
     let P : List Bool → Type 0 = λ xs. IsTrueAt xs first in
     let marked = subst P c.deref-then-has_zero.ensures.value c.first_marked-node.ensures.marked in
     let within : first < node_count graph = omega (arith, marked_within marks first marked, exact.for_each_node) in
-    let least : IsLeastOnCycle graph first = record {
+    let least : IsLeastOnCycle (successors graph) first = record {
       on_cycle = (exact.exact first within).0 marked;
       least = λ other cycle. let Q : List Bool → Type 0 = λ xs. IsTrueAt xs other in c.first_marked-node.ensures.least other (subst Q (sym c.deref-then-has_zero.ensures.value) ((exact.exact other (node_on_cycle graph other cycle)).1 cycle));
     } in (
-      λ e. let same : first ≡ node = cc e in let R : ℕ → Type 0 = λ x. IsLeastOnCycle graph x in subst R same least,
+      λ e. let same : first ≡ node = cc e in let R : ℕ → Type 0 = λ x. IsLeastOnCycle (successors graph) x in subst R same least,
       λ is. let same : first ≡ node = omega (arith, least.least node is.on_cycle, is.least first least.on_cycle) in ap (λ x. Err (Cyclic x)) same,
     )
 
