@@ -2,3 +2,4 @@ pub mod OneReading
 pub mod LineLemmas
 pub mod ExamplesReading
 pub mod WrittenEquations
+pub mod SpaceLemmas

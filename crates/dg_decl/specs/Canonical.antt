@@ -19,7 +19,7 @@ use Rattle.dg_decl.specs.declared.item.OpenArg.{OpenArg}
 use Rattle.dg_decl.specs.declared.item.AskStep.{AskStep}
 use Rattle.dg_decl.specs.declared.item.AskStep.TheVariants as step
 use Rattle.dg_decl.specs.Lines.{with_end}
-use Rattle.dg_decl.specs.Written.{name_token, word_token, sign_token, at_token, text_token, integer_token, members, in_parens, written_type, written, written_tree}
+use Rattle.dg_decl.specs.Written.{name_token, word_token, sign_token, at_token, text_token, integer_token, separated, in_parens, written_type, written, written_tree}
 
 -- ---- the tokens of an item
 
@@ -60,7 +60,7 @@ param_tokens p = apart (name_token p.name) ∷ (close (sign_token (codes ":")) �
 -- parameters in parentheses
 abbrev pub params_tokens : List Param → List Printed
 params_tokens ps =
-    apart (sign_token (codes "(")) ∷ (members (apart (sign_token (codes ","))) (map param_tokens ps) ++ (apart (sign_token (codes ")")) ∷ []))
+    apart (sign_token (codes "(")) ∷ (separated (apart (sign_token (codes ","))) (map param_tokens ps) ++ (apart (sign_token (codes ")")) ∷ []))
 
 -- `: USE` of a result
 abbrev pub result_tokens : TypeUse → List Printed
@@ -73,7 +73,7 @@ keyword_tokens w n = name_token w ∷ (name_token n ∷ [])
 -- a keyword and names behind it, where there are names
 abbrev pub clause_tokens : Lexeme → List Bytes → List Lexeme
 clause_tokens w [] = []
-clause_tokens w (n ∷ ns) = w ∷ members (sign_token (codes ",")) (map (λ m. name_token m ∷ []) (n ∷ ns))
+clause_tokens w (n ∷ ns) = w ∷ separated (sign_token (codes ",")) (map (λ m. name_token m ∷ []) (n ∷ ns))
 
 -- a keyword and a name behind it, where there is one
 abbrev pub optional_tokens : Bytes → Option Bytes → List Lexeme
@@ -115,7 +115,7 @@ open_arg_tokens a = name_token a.name ∷ (sign_token (codes "=") ∷ (written a
 
 abbrev pub open_args_tokens : List OpenArg → List Lexeme
 open_args_tokens [] = []
-open_args_tokens (a ∷ args) = name_token (codes "with") ∷ members (sign_token (codes ",")) (map open_arg_tokens (a ∷ args))
+open_args_tokens (a ∷ args) = name_token (codes "with") ∷ separated (sign_token (codes ",")) (map open_arg_tokens (a ∷ args))
 
 abbrev pub step_tokens : AskStep → List Lexeme
 step_tokens (step.Field f) = sign_token (codes ".") ∷ (name_token f ∷ [])

@@ -45,14 +45,14 @@ abbrev pub integer_token : ℤ → Lexeme
 integer_token n = record { kind = kind.Integer; spelling = signed_decimal n }
 
 -- further members of a list, each behind a comma
-abbrev pub more_members : {A : Type 0} → A → List (List A) → List A
-more_members comma [] = []
-more_members comma (x ∷ xs) = comma ∷ (x ++ more_members comma xs)
+abbrev pub more_separated : {A : Type 0} → A → List (List A) → List A
+more_separated comma [] = []
+more_separated comma (x ∷ xs) = comma ∷ (x ++ more_separated comma xs)
 
 -- members with commas between
-abbrev pub members : {A : Type 0} → A → List (List A) → List A
-members comma [] = []
-members comma (x ∷ xs) = x ++ more_members comma xs
+abbrev pub separated : {A : Type 0} → A → List (List A) → List A
+separated comma [] = []
+separated comma (x ∷ xs) = x ++ more_separated comma xs
 
 -- between parentheses
 abbrev pub in_parens : List Lexeme → List Lexeme
@@ -146,7 +146,7 @@ loose s = loose_at s.level s
 
 -- members between parentheses
 abbrev pub list_tokens : List Written → List Lexeme
-list_tokens xs = in_parens (members (sign_token (codes ",")) (map (λ x. x.tokens) xs))
+list_tokens xs = in_parens (separated (sign_token (codes ",")) (map (λ x. x.tokens) xs))
 
 abbrev pub list_depth : List Written → ℕ
 list_depth xs = greatest (map (λ x. x.depth) xs)

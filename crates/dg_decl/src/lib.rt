@@ -19,3 +19,6 @@ pub use graph::{BindGraph, Edge, EdgeKind, Node, NodeKind};
 pub use item::{AskStep, Item, Mark, OpenArg, Param};
 pub use reading::{lines_and_rest, one_reading};
 pub use violation::{Rule, Violation};
+
+#[cfg(test)]
+mod tests;

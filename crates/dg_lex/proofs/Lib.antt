@@ -3,3 +3,4 @@ pub mod TokenLemmas
 pub mod LongestLemmas
 pub mod OrderLemmas
 pub mod TextLemmas
+pub mod PieceLemmas
