@@ -7,8 +7,9 @@ use Rattle.dg_types.specs.declared.shape.Shape.TheOpen.{Shape-F}
 use Rattle.dg_types.specs.declared.shape.Shape.TheFolds.{fold-Shape}
 use Rattle.dg_lex.specs.declared.token.TokenKind.TheVariants as kind
 use Rattle.dg_lex.specs.Bytes.{Bytes, is_plain, is_among}
-use Rattle.dg_lex.specs.Tokens.{is_name, is_integer}
+use Rattle.dg_lex.specs.Tokens.{is_name}
 use Rattle.dg_lex.specs.Lexemes.{Lexeme, quoted}
+use Rattle.dg_lex.specs.LexLaws.{is_in_range}
 use Rattle.dg_decl.specs.declared.expression.CallName.{CallName}
 use Rattle.dg_decl.specs.declared.expression.CallName.TheVariants as call
 use Rattle.dg_decl.specs.declared.expression.Expr.{Expr}
@@ -174,7 +175,7 @@ if_tokens c a b = word_token (codes "if") ∷ (c.tokens ++ (word_token (codes "t
 -- an expression whose parts are written so
 abbrev pub expression_written : Expr-F WrittenCondition Written → Written
 expression_written (Expr-F.Text t) = atom_of (text_token t ∷ []) 1 (list_all is_plain t)
-expression_written (Expr-F.Int n) = atom_of (integer_token n ∷ []) 1 (is_integer (signed_decimal n))
+expression_written (Expr-F.Int n) = atom_of (integer_token n ∷ []) 1 (is_in_range n)
 expression_written (Expr-F.Param p) = atom_of (name_token p ∷ []) 1 (is_name p)
 expression_written (Expr-F.New c xs) =
     atom_of (word_token (codes "new") ∷ (name_token c ∷ list_tokens xs)) (suc (list_depth xs)) (is_name c && list_fits xs)

@@ -4,3 +4,4 @@ pub mod LongestLemmas
 pub mod OrderLemmas
 pub mod TextLemmas
 pub mod PieceLemmas
+pub mod DecimalLemmas

@@ -1,11 +1,12 @@
 -- What holds of the tokens of every line, and of every text in quotes.
-use Rattle.std.specs.Prelude.{◌≡◌, ℕ, ◌-◌, ◌<◌, ◌≤◌, Bool, true, false, ◌==◌, List, [], ◌∷◌, length, take, drop, slice_index, Some, None, Ok, Err}
+use Rattle.std.specs.Prelude.{◌≡◌, ℕ, ◌-◌, ◌<◌, ◌≤◌, Bool, true, false, ◌==◌, List, [], ◌∷◌, length, take, drop, slice_index, nat_lt, ◌^◌, ℤ, pos, negsuc, Some, None, Ok, Err}
+use Rattle.std.specs.Fmt.{signed_decimal}
 use Rattle.std.specs.List.{list_all}
 use Rattle.dg_lex.specs.declared.token.Token.{Token}
 use Rattle.dg_lex.specs.declared.token.TokenKind.{TokenKind}
 use Rattle.dg_lex.specs.declared.token.TokenKind.TheVariants.{Text, Sign}
 use Rattle.dg_lex.specs.Bytes.{Bytes, is_plain, is_word_byte}
-use Rattle.dg_lex.specs.Tokens.{extent, is_text, kind_of, spelling_of, tokens_of}
+use Rattle.dg_lex.specs.Tokens.{extent, is_integer, is_text, kind_of, spelling_of, tokens_of, value_of_integer}
 use Rattle.dg_lex.specs.Lexemes.{quoted, value_of_text}
 
 -- no front of the bytes that is longer than what the token in front takes is a token of any kind
@@ -55,3 +56,13 @@ pub record AreQuoted : Type 0 where
   pub value : (z : Bytes) → value_of_text (quoted z) ≡ z
   pub token : (z : Bytes) → list_all is_plain z ≡ true → is_text (quoted z) ≡ true
   pub spelling : (z : Bytes) → is_text z ≡ true → quoted (value_of_text z) ≡ z
+
+-- an integer of 64 bits, signed
+abbrev pub is_in_range : ℤ → Bool
+is_in_range (pos n) = nat_lt n (2 ^ 63)
+is_in_range (negsuc n) = nat_lt n (2 ^ 63)
+
+-- The decimal text of each integer of 64 bits is a token, and that integer is its value.
+pub record AreDecimals : Type 0 where
+  pub token : (n : ℤ) → is_in_range n ≡ true → is_integer (signed_decimal n) ≡ true
+  pub value : (n : ℤ) → is_in_range n ≡ true → value_of_integer (signed_decimal n) ≡ n

@@ -1,6 +1,6 @@
 //! What holds of the tokens of every line, and of every text in quotes.
 
-ghost use Rattle.dg_lex.specs.LexLaws.{NoLongerToken, TokensLieInOrder, BadPlaces, AreQuoted};
+ghost use Rattle.dg_lex.specs.LexLaws.{NoLongerToken, TokensLieInOrder, BadPlaces, AreQuoted, AreDecimals};
 
 /// A token is as long as it can be: no longer front of the bytes at its place is a token of any kind.
 pub fn no_longer_token()
@@ -23,4 +23,9 @@ pub fn bad_places()
 /// written.
 pub fn quoted_texts()
     ensures exact { AreQuoted }
+{}
+
+/// The decimal text of each integer of 64 bits, signed, is an integer token with that value.
+pub fn decimal_integers()
+    ensures exact { AreDecimals }
 {}

@@ -1,6 +1,6 @@
 use crate::token::TokenKind::{AtName, Integer, Name, Sign, Text, Word};
 use crate::{
-    LexFault, Token, TokenKind, bad_places, no_longer_token, quoted_texts, spelling, tokens,
+    LexFault, Token, TokenKind, bad_places, decimal_integers, no_longer_token, quoted_texts, spelling, tokens,
     tokens_lie_in_order, value_of_integer, value_of_text,
 };
 use std::test::Fail;
@@ -149,4 +149,5 @@ fn the_laws_are_calls(_rt: HostRuntime) {
     tokens_lie_in_order();
     bad_places();
     quoted_texts();
+    decimal_integers();
 }
