@@ -3,3 +3,4 @@ pub mod LineLemmas
 pub mod ExamplesReading
 pub mod WrittenEquations
 pub mod SpaceLemmas
+pub mod TypesBack
