@@ -1,6 +1,6 @@
 -- The decimal text of an integer is a token, and that integer is its value.
-use Rattle.std.proofs.Common.{ℕ, zero, suc, ◌≡◌, ◌+◌, ◌-◌, ◌*◌, ◌/◌, ◌%◌, ◌≤◌, ◌<◌, Bool, true, false, ◌&&◌, ◌==◌, List, [], ◌∷◌, ◌++◌, length, drop, slice_index, fold, refl, sym, ap, ◌∙◌, lit<, lit≤, length-append, arith}
-use Rattle.std.specs.Prelude.{◌||◌, ◌^◌, codes, not, nat_le, nat_lt, ℤ, pos, negsuc, neg_ℤ, decimal}
+use Rattle.std.proofs.Common.{ℕ, zero, suc, ◌≡◌, ◌+◌, ◌*◌, ◌/◌, ◌%◌, ◌≤◌, ◌<◌, Bool, true, false, ◌==◌, [], ◌∷◌, ◌++◌, length, slice_index, refl, sym, ◌∙◌, lit<, length-append, arith}
+use Rattle.std.specs.Prelude.{◌||◌, ◌^◌, codes, nat_le, ℤ, pos, negsuc, decimal}
 use Rattle.std.specs.Fmt.{signed_decimal}
 use Rattle.std.specs.Char.{is_ascii_digit}
 use Rattle.std.specs.List.{list_all}
@@ -9,7 +9,7 @@ use Rattle.std.proofs.Math.Nat.{div-add-mod}
 use Rattle.std.proofs.lemmas.Fmt.{decimal_by_steps, decimal_digit}
 use Rattle.std.proofs.lemmas.List.Sums.{fold-append}
 use Rattle.std.proofs.lemmas.List.Folds.{list_all-append}
-use Rattle.std.proofs.lemmas.Bool.{eqb-true, ltb-true, lt-ltb, le-leb, false≢true, and_right}
+use Rattle.std.proofs.lemmas.Bool.{eqb-true, ltb-true, lt-ltb, le-leb, false≢true}
 use Rattle.dg_lex.specs.Bytes.{Bytes}
 use Rattle.dg_lex.specs.Tokens.{is_counting, is_integer, value_of_digits, value_of_integer}
 use Rattle.dg_lex.specs.LexLaws.{is_in_range, AreDecimals}

@@ -1,13 +1,12 @@
 -- The tokens of a text that is put together from tokens, with a space before each where the one before it would go on.
-use Rattle.std.proofs.Common.{ℕ, zero, suc, ◌≡◌, ◌+◌, ◌-◌, ◌≤◌, ◌<◌, Bool, true, false, ◌&&◌, ◌==◌, List, [], ◌∷◌, ◌++◌, length, take, drop, get_or, slice_index, map, Option, Some, None, Result, Ok, Err, refl, sym, ap, subst, ◌∙◌, inl, inr, length-append, append_assoc, append-nil, lit<, arith}
+use Rattle.std.proofs.Common.{ℕ, ◌≡◌, ◌+◌, ◌-◌, ◌<◌, Bool, true, false, ◌&&◌, ◌==◌, List, [], ◌∷◌, ◌++◌, length, take, drop, get_or, slice_index, map, Option, Some, None, Ok, refl, sym, ap, subst, ◌∙◌, inl, inr, length-append, append_assoc, lit<, arith}
 use Rattle.std.specs.Prelude.{if◌then◌else◌, ◌||◌, not, codes, nat_lt, nat_le, ◌^◌}
 use Rattle.std.specs.Char.{is_ascii_alphabetic, is_ascii_digit}
-use Rattle.std.specs.Int.{is_in_range}
 use Rattle.std.specs.List.{list_all, list_any, prefix_len}
 use Rattle.std.specs.Str.{bytes_eq}
 use Rattle.std.proofs.Math.Seq.{take-append_seam, drop-append_seam}
 use Rattle.std.proofs.lemmas.Slice.Eq.{bytes_eq-Decides}
-use Rattle.std.proofs.lemmas.Bool.{and_parts, or_cases, or_parts, and_left, and_right, both_ways, cases_Bool, eqb-true, false≢true, not-true}
+use Rattle.std.proofs.lemmas.Bool.{and_parts, or_cases, or_parts, and_left, and_right, eqb-true, false≢true, not-true}
 use Rattle.dg_lex.specs.declared.token.Token.{Token}
 use Rattle.dg_lex.specs.declared.token.TokenKind.{TokenKind}
 use Rattle.dg_lex.specs.declared.token.TokenKind.TheVariants as kind
@@ -414,14 +413,14 @@ found_piece p ps front line true e same is touch more =
     let z = p.token.spelling in
     let there : line ≡ (front ++ (32 ∷ [])) ++ (z ++ text_of ps) = rw e at same ∙ sym (append_assoc front (32 ∷ []) (z ++ text_of ps)) in
     let here = found_token (front ++ (32 ∷ [])) z (text_of ps) line p.token.kind (tokens_in ps) there is touch
-      (more ((front ++ (32 ∷ [])) ++ z) (there ∙ sym (append_assoc (front ++ (32 ∷ [])) z (text_of ps)))) in
+    (more ((front ++ (32 ∷ [])) ++ z) (there ∙ sym (append_assoc (front ++ (32 ∷ [])) z (text_of ps)))) in
     let at : length (front ++ (32 ∷ [])) ≡ length front + 1 = omega (arith, length-append front (32 ∷ [])) in
     rw e record { tokens = here.tokens; found = rw at at here.found; spelled = here.spelled }
 found_piece p ps front line false e same is touch more =
     let z = p.token.spelling in
     let there : line ≡ front ++ (z ++ text_of ps) = rw e at same in
     rw e (found_token front z (text_of ps) line p.token.kind (tokens_in ps) there is touch
-      (more (front ++ z) (there ∙ sym (append_assoc front z (text_of ps)))))
+    (more (front ++ z) (there ∙ sym (append_assoc front z (text_of ps)))))
 
 pub found_all : (ps : List Piece) (front line : Bytes) → line ≡ front ++ text_of ps → AreTokens ps → AreParted ps → AreFound line (length front) (text_of ps) (tokens_in ps)
 found_all [] front line same are parted = record { tokens = []; found = refl; spelled = refl }

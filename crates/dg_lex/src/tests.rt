@@ -1,7 +1,7 @@
 use crate::token::TokenKind::{AtName, Integer, Name, Sign, Text, Word};
 use crate::{
-    LexFault, Token, TokenKind, bad_places, decimal_integers, no_longer_token, quoted_texts, spelling, tokens,
-    tokens_lie_in_order, value_of_integer, value_of_text,
+    LexFault, Token, TokenKind, bad_places, decimal_integers, no_longer_token, quoted_texts,
+    spelling, tokens, tokens_lie_in_order, value_of_integer, value_of_text,
 };
 use std::test::Fail;
 
