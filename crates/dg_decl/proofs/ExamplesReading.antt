@@ -1,6 +1,6 @@
 -- Examples of what is read and what is printed, computed from the definitions.
 use Rattle.std.proofs.Common.{◌≡◌, ℕ, List, [], ◌∷◌, ◌++◌, map, Some, None, Ok, zero, suc, refl, ap, ◌∙◌, arith, lit<}
-use Rattle.std.specs.Prelude.{Bool, true, false, Option, Result, Err, codes, ℤ, pos, negsuc}
+use Rattle.std.specs.Prelude.{Bool, true, false, Option, Result, Err, codes, pos, negsuc}
 use Rattle.dg_types.specs.declared.shape.Shape.{Shape}
 use Rattle.dg_types.specs.declared.shape.Shape.TheVariants as shape
 use Rattle.dg_types.specs.declared.shape.Qualifier.{Qualifier}
@@ -16,9 +16,7 @@ use Rattle.dg_decl.specs.declared.expression.Tree.TheVariants as tree
 use Rattle.dg_decl.specs.declared.document.LineMeaning.TheVariants as meaning
 use Rattle.dg_decl.specs.declared.item.Item.{Item}
 use Rattle.dg_decl.specs.declared.item.Item.TheVariants as item
-use Rattle.dg_decl.specs.declared.item.Mark.{Mark}
 use Rattle.dg_decl.specs.declared.item.Mark.TheVariants as mark
-use Rattle.dg_decl.specs.declared.item.Param.{Param}
 use Rattle.dg_decl.specs.declared.item.AskStep.TheVariants as step
 use Rattle.std.proofs.lemmas.Fmt.{decimal_digit}
 use Rattle.dg_decl.proofs.WrittenEquations.{nesting_equations, written_equations, nesting-Text, nesting-Call, written-ByName, written-Call, written-Equal, written-Field, written-Has, written-If, written-Int, written-IsOk, written-Less, written-New, written-OrElse, written-Param, written-Sum, written-Text, written_tree-Await, written_tree-If, written_tree-Leaf, written_type-Int, written_type-Provider, written_type-Text}

@@ -1,10 +1,10 @@
 -- The bytes of a document are its lines, each with its LF, and then the rest.
 use Rattle.std.proofs.Common.{◌≡◌, ℕ, Bool, true, false, ◌==◌, List, [], ◌∷◌, ◌++◌, refl, sym, ap, ◌∙◌}
-use Rattle.std.specs.Prelude.{not, ◌&&◌, ◌||◌, ◌≢◌}
+use Rattle.std.specs.Prelude.{◌≢◌}
 use Rattle.std.specs.List.{list_any, list_all, flat_map}
 use Rattle.std.proofs.lemmas.Bool.{eqb-true, false≢true}
 use Rattle.dg_lex.specs.Bytes.{Bytes, line_end}
-use Rattle.dg_decl.specs.Lines.{lines_of, rest_of, with_first, with_end, has_no_end, AreSplit, LinesAndRest}
+use Rattle.dg_decl.specs.Lines.{lines_of, rest_of, with_first, with_end, has_no_end, LinesAndRest}
 
 -- an LF stands somewhere
 abbrev ends : Bytes → Bool

@@ -1,10 +1,10 @@
 -- The tokens of canonical text: a space stands before each that couldn't stand right behind the one before it.
-use Rattle.std.proofs.Common.{ℕ, ◌≡◌, Bool, true, false, ◌&&◌, List, [], ◌∷◌, ◌++◌, Option, Some, None, refl, sym, ap, ◌∙◌, inl, inr}
-use Rattle.std.specs.Prelude.{if◌then◌else◌, ◌||◌, not, codes}
+use Rattle.std.proofs.Common.{◌≡◌, Bool, true, false, ◌&&◌, List, [], ◌∷◌, ◌++◌, Option, Some, None, refl, ap, ◌∙◌, inl, inr}
+use Rattle.std.specs.Prelude.{◌||◌, not, codes}
 use Rattle.std.specs.List.{list_all}
 use Rattle.std.specs.Str.{bytes_eq}
 use Rattle.std.proofs.lemmas.Slice.Eq.{bytes_eq-Decides}
-use Rattle.std.proofs.lemmas.Bool.{and_parts, and_cases, or_cases, or_parts, not-true, not-false, false≢true}
+use Rattle.std.proofs.lemmas.Bool.{and_parts, and_cases, or_cases, or_parts, not-false, false≢true}
 use Rattle.dg_lex.specs.declared.token.TokenKind.{TokenKind}
 use Rattle.dg_lex.specs.Bytes.{Bytes, is_among}
 use Rattle.dg_lex.specs.Tokens.{kind_of, is_name, is_at_name, is_integer, is_counting, is_text, is_sign}

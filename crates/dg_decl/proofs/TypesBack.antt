@@ -1,8 +1,8 @@
 -- Types, their uses and parameters are read back from their tokens.
-use Rattle.std.proofs.Common.{ℕ, zero, suc, ◌≡◌, ◌≤◌, Bool, true, false, ◌&&◌, List, [], ◌∷◌, ◌++◌, Option, Some, None, refl, sym, ap, subst, ◌∙◌, append_assoc, arith}
-use Rattle.std.specs.Prelude.{if◌then◌else◌, ◌||◌, not, max, codes}
+use Rattle.std.proofs.Common.{ℕ, zero, suc, ◌≡◌, ◌≤◌, true, false, ◌&&◌, List, [], ◌∷◌, ◌++◌, Some, refl, sym, ap, subst, ◌∙◌, append_assoc, arith}
+use Rattle.std.specs.Prelude.{◌||◌, not, max, codes}
 use Rattle.std.specs.Str.{bytes_eq}
-use Rattle.std.proofs.lemmas.Bool.{and_parts, or_parts, not-true, false≢true}
+use Rattle.std.proofs.lemmas.Bool.{and_parts, or_parts, not-true}
 use Rattle.dg_types.specs.declared.shape.Shape.{Shape, roll-Shape}
 use Rattle.dg_types.specs.declared.shape.Shape.TheVariants as shape
 use Rattle.dg_types.specs.declared.shape.Shape.TheOpen.{Shape-F}
@@ -11,8 +11,8 @@ use Rattle.dg_lex.specs.declared.token.TokenKind.TheVariants as kind
 use Rattle.dg_lex.specs.Bytes.{Bytes, is_among}
 use Rattle.dg_lex.specs.Tokens.{is_name}
 use Rattle.dg_lex.specs.Lexemes.{Lexeme}
-use Rattle.dg_decl.specs.Readers.{Reader, ◌>>=◌, pure, comes, taken, eaten, spelled, then_reads}
-use Rattle.dg_decl.specs.TypeForms.{shape_named, constructed, type_over, type_within, type_form, type_depth_limit}
+use Rattle.dg_decl.specs.Readers.{Reader, ◌>>=◌, pure, comes, taken, eaten, spelled}
+use Rattle.dg_decl.specs.TypeForms.{shape_named, constructed, type_over, type_within}
 use Rattle.dg_decl.specs.Written.{name_token, sign_token, constructor_of, WrittenType, written_type}
 use Rattle.dg_decl.proofs.WrittenEquations.{written_type-Text, written_type-Int, written_type-Named, written_type-Set, written_type-Map, written_type-Optional, written_type-Provider, written_type-Lazy, written_type-Producer, written_type-Produced}
 

@@ -1,10 +1,9 @@
 -- Canonical text: one item a line, the tokens of each, and the spaces between them.
-use Rattle.std.specs.Prelude.{ℕ, Bool, true, false, not, ◌&&◌, ◌||◌, ◌==◌, if◌then◌else◌, List, [], ◌∷◌, ◌++◌, length, map, Option, Some, None, codes}
+use Rattle.std.specs.Prelude.{Bool, true, false, not, ◌&&◌, ◌||◌, if◌then◌else◌, List, [], ◌∷◌, ◌++◌, map, Option, Some, None, codes}
 use Rattle.std.specs.Str.{bytes_eq}
 use Rattle.std.specs.List.{flat_map}
 use Rattle.dg_types.specs.declared.key.MapKeyVal.{MapKeyVal}
 use Rattle.dg_types.specs.declared.key.MapKeyVal.TheVariants as map_key
-use Rattle.dg_types.specs.declared.shape.Shape.{Shape}
 use Rattle.dg_types.specs.declared.shape.Qualifier.{Qualifier}
 use Rattle.dg_types.specs.declared.shape.TypeUse.{TypeUse}
 use Rattle.dg_lex.specs.Bytes.{Bytes, is_among}
@@ -19,7 +18,7 @@ use Rattle.dg_decl.specs.declared.item.OpenArg.{OpenArg}
 use Rattle.dg_decl.specs.declared.item.AskStep.{AskStep}
 use Rattle.dg_decl.specs.declared.item.AskStep.TheVariants as step
 use Rattle.dg_decl.specs.Lines.{with_end}
-use Rattle.dg_decl.specs.Written.{name_token, word_token, sign_token, at_token, text_token, integer_token, separated, in_parens, written_type, written, written_tree}
+use Rattle.dg_decl.specs.Written.{name_token, sign_token, at_token, text_token, integer_token, separated, in_parens, written_type, written, written_tree}
 
 -- ---- the tokens of an item
 

@@ -18,7 +18,7 @@ use Rattle.dg_decl.specs.declared.expression.Cond.TheOpen.{Cond-F, Expr-F}
 use Rattle.dg_decl.specs.declared.expression.Cond.TheFolds.{fold-Cond, fold-Expr}
 use Rattle.dg_decl.specs.declared.expression.Tree.TheOpen.{Tree-F}
 use Rattle.dg_decl.specs.declared.expression.Tree.TheFolds.{fold-Tree}
-use Rattle.dg_decl.specs.Readers.{Reader, ◌>>=◌, ◌>>◌, pure, nothing, comes_kind, comes, eaten, word, keyword, sign, name, text, integer, list_limit, enclosed, some_in_parentheses, in_parentheses}
+use Rattle.dg_decl.specs.Readers.{Reader, ◌>>=◌, ◌>>◌, pure, nothing, comes_kind, comes, eaten, word, keyword, sign, name, text, integer, enclosed, some_in_parentheses, in_parentheses}
 
 -- ---- how deep an expression, a condition or a tree nests
 

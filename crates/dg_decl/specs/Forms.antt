@@ -1,5 +1,5 @@
 -- The forms of lines: which item the lexemes of a line spell.
-use Rattle.std.specs.Prelude.{ℕ, zero, suc, Bool, true, false, not, if◌then◌else◌, List, [], ◌∷◌, length, ◌==◌, Option, Some, None, codes}
+use Rattle.std.specs.Prelude.{ℕ, zero, suc, Bool, true, false, not, if◌then◌else◌, List, [], ◌∷◌, Option, Some, None, codes}
 use Rattle.std.specs.Str.{bytes_eq}
 use Rattle.dg_types.specs.declared.shape.TypeUse.{TypeUse}
 use Rattle.dg_types.specs.declared.key.MapKeyVal.{MapKeyVal}

@@ -1,5 +1,5 @@
 -- The tokens of canonical text: of types, expressions, conditions and trees, from the tokens of their parts.
-use Rattle.std.specs.Prelude.{ℕ, suc, ◌+◌, Bool, true, ◌&&◌, ◌==◌, not, nat_le, nat_lt, max, List, [], ◌∷◌, ◌++◌, length, map, codes, ℤ}
+use Rattle.std.specs.Prelude.{ℕ, suc, Bool, true, ◌&&◌, ◌==◌, not, nat_le, nat_lt, max, List, [], ◌∷◌, ◌++◌, length, map, codes, ℤ}
 use Rattle.std.specs.Fmt.{signed_decimal}
 use Rattle.std.specs.List.{list_all}
 use Rattle.dg_types.specs.declared.shape.Shape.{Shape}
