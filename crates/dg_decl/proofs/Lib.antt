@@ -4,3 +4,4 @@ pub mod ExamplesReading
 pub mod WrittenEquations
 pub mod SpaceLemmas
 pub mod TypesBack
+pub mod ExpressionsBack
