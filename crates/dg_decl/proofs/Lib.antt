@@ -10,3 +10,10 @@ pub mod HeaderLemmas
 pub mod NodeWalks
 pub mod NodeEquality
 pub mod ExampleShop
+pub mod OneReading
+pub mod LineLemmas
+pub mod ExamplesReading
+pub mod WrittenEquations
+pub mod SpaceLemmas
+pub mod TypesBack
+pub mod ExpressionsBack

@@ -1,5 +1,16 @@
 pub mod Document
 pub mod Walks
+pub mod Lines
+pub mod Readers
+pub mod TypeForms
+pub mod ExpressionForms
+pub mod Forms
+pub mod Meaning
+pub mod Blocks
+pub mod Limits
+pub mod Reading
+pub mod Written
+pub mod Canonical
 pub mod Sites
 pub mod Names
 pub mod Components

@@ -9,6 +9,7 @@ mod document;
 mod expression;
 mod graph;
 mod item;
+mod reading;
 mod violation;
 
 pub use binding::{Bind, BindKind, BindRef, Found, Owned};
@@ -21,4 +22,8 @@ pub use document::{Doc, LineMeaning};
 pub use expression::{CallName, Cond, Expr, ParamCall, Tree};
 pub use graph::{BindGraph, Edge, EdgeKind, Node, NodeKind};
 pub use item::{AskStep, Item, Mark, OpenArg, Param};
+pub use reading::{lines_and_rest, one_reading};
 pub use violation::{Rule, Violation};
+
+#[cfg(test)]
+mod tests;

@@ -1,2 +1,7 @@
 mod NumberLemmas
 pub mod TokenLemmas
+pub mod LongestLemmas
+pub mod OrderLemmas
+pub mod TextLemmas
+pub mod PieceLemmas
+pub mod DecimalLemmas

@@ -20,18 +20,18 @@ tokens_from-drop zero at to z sum = ap (λ k. tokens_from 0 k z) (omega arith)
 tokens_from-drop (suc left) at to [] sum = refl
 tokens_from-drop (suc left) at to (b ∷ z) sum = tokens_from-drop left (at + 1) to z (omega arith)
 
-bad_first : (at len : ℕ) (z : Bytes) → 0 < length z → (get_or z 0 0 == 32) ≡ false → extent z ≡ len → kind_of (take len z) ≡ None → tokens_from 0 at z ≡ Err at
+pub bad_first : (at len : ℕ) (z : Bytes) → 0 < length z → (get_or z 0 0 == 32) ≡ false → extent z ≡ len → kind_of (take len z) ≡ None → tokens_from 0 at z ≡ Err at
 bad_first at len [] some other is none = absurd (omega arith)
 bad_first at len (b ∷ z) some other is none = rw (other, is, none)
 
-token_first : (at len : ℕ) (z : Bytes) (kind : TokenKind) → 0 < length z → (get_or z 0 0 == 32) ≡ false → extent z ≡ len → 0 < len → kind_of (take len z) ≡ Some kind → before (token_from kind at len) (tokens_from 0 (at + len) (drop len z)) ≡ tokens_from 0 at z
+pub token_first : (at len : ℕ) (z : Bytes) (kind : TokenKind) → 0 < length z → (get_or z 0 0 == 32) ≡ false → extent z ≡ len → 0 < len → kind_of (take len z) ≡ Some kind → before (token_from kind at len) (tokens_from 0 (at + len) (drop len z)) ≡ tokens_from 0 at z
 token_first at len [] kind some other is moves found = absurd (omega arith)
 token_first at zero (b ∷ z) kind some other is moves found = absurd (omega arith)
 token_first at (suc n) (b ∷ z) kind some other is moves found =
     let less : suc n - 1 ≡ n = omega arith in
     rw (other, is, found, less, tokens_from-drop n (at + 1) (at + suc n) z (omega arith))
 
-not_space : (at : ℕ) (z : Bytes) → at < length z → (get_or z at 0 == 32) ≡ false → (get_or (drop at z) 0 0 == 32) ≡ false
+pub not_space : (at : ℕ) (z : Bytes) → at < length z → (get_or z at 0 == 32) ≡ false → (get_or (drop at z) 0 0 == 32) ≡ false
 not_space at z within other = rw (drop_more z at 0 within) other
 
 pub joined_end : (front : List Token) (at : ℕ) (z : Bytes) → length z ≤ at → joined front (tokens_from 0 at (drop at z)) ≡ Ok front

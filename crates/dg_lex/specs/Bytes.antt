@@ -23,3 +23,11 @@ is_word_byte b = is_ascii_alphanumeric b || b == 95
 -- one of these texts is this one
 abbrev pub is_among : Bytes → List Bytes → Bool
 is_among z texts = list_any (bytes_eq z) texts
+
+-- the most bytes of a name
+abbrev pub name_limit : ℕ
+name_limit = 64
+
+-- the most bytes of a line, without the LF that ends it
+abbrev pub line_limit : ℕ
+line_limit = 4096

@@ -3,7 +3,7 @@ use Rattle.std.specs.Prelude.{ℕ, zero, suc, ◌+◌, ◌-◌, ◌*◌, ◌^◌
 use Rattle.std.specs.Char.{is_ascii_alphabetic, is_ascii_digit}
 use Rattle.std.specs.List.{prefix_len, list_all, list_any}
 use Rattle.std.specs.Str.{bytes_eq}
-use Rattle.dg_lex.specs.Bytes.{Bytes, is_plain, is_word_byte, is_among}
+use Rattle.dg_lex.specs.Bytes.{Bytes, is_plain, is_word_byte, is_among, name_limit}
 use Rattle.dg_lex.specs.declared.token.Token.{Token}
 use Rattle.dg_lex.specs.declared.token.TokenKind.{TokenKind}
 use Rattle.dg_lex.specs.declared.token.TokenKind.TheVariants.{Name, Word, AtName, Integer, Text, Sign}
@@ -15,7 +15,7 @@ reserved = codes "new" ∷ codes "if" ∷ codes "then" ∷ codes "else" ∷ code
 
 -- a word that begins with a letter and has no more bytes than a name may have; reserved words are none
 unfoldable pub is_name : Bytes → Bool
-is_name z = is_ascii_alphabetic (slice_index z 0) && list_all is_word_byte z && nat_le (length z) 64 && not (is_among z reserved)
+is_name z = is_ascii_alphabetic (slice_index z 0) && list_all is_word_byte z && nat_le (length z) name_limit && not (is_among z reserved)
 
 -- `@` and a name
 unfoldable pub is_at_name : Bytes → Bool

@@ -1,6 +1,7 @@
 //! The tokens of a line, one after another.
 
 ghost use Rattle.std.specs.Prelude.{◌≡◌, ◌≤◌, ◌↔◌, length, Ok, Err, IfOk};
+ghost use Rattle.dg_lex.specs.Bytes.{line_limit};
 ghost use Rattle.dg_lex.specs.Tokens as spec;
 ghost use Rattle.dg_lex.specs.LexFaults.{HasNoTokens};
 
@@ -11,7 +12,7 @@ use std::alloc::Global;
 
 /// The tokens of a line of at most 4,096 bytes, with any number of spaces between them.
 pub fn tokens(alloc: Global, line: &[u8]) -> Result<Vec<Token>, LexFault>
-    requires { length line.now ≤ 4096 }
+    requires { length line.now ≤ line_limit }
     ensures exact { IfOk result (λ ts. spec.tokens_of line.now ≡ Ok ts.items) }
     // Bad comes exactly where no token begins at that place and all before it are tokens and spaces, and NoMemory only
     // where the line isn't blank.

@@ -1,5 +1,8 @@
 use crate::token::TokenKind::{AtName, Integer, Name, Sign, Text, Word};
-use crate::{LexFault, Token, TokenKind, spelling, tokens, value_of_integer};
+use crate::{
+    LexFault, Token, TokenKind, bad_places, decimal_integers, no_longer_token, quoted_texts,
+    spelling, tokens, tokens_lie_in_order, value_of_integer, value_of_text,
+};
 use std::test::Fail;
 
 /// A kind, and the places `from` and `to`.
@@ -124,4 +127,27 @@ fn integers_have_these_numbers(rt: HostRuntime) {
     for (z, number) in rows {
         assert_eq!(rt; value_of_integer(z), number);
     }
+}
+
+#[test]
+fn texts_have_these_values(rt: HostRuntime) -> Result<(), Fail> {
+    let rows = [
+        (br#""""#.as_slice(), b"".as_slice()),
+        (br#""a b""#, b"a b"),
+        (br#""a\"b""#.as_slice(), br#"a"b"#.as_slice()),
+        (br#""\\""#, br#"\"#),
+    ];
+    for (spelling, value) in rows {
+        assert_eq!(rt; value_of_text(rt.alloc(), spelling)?.as_slice(), value);
+    }
+    Ok(())
+}
+
+#[test]
+fn the_laws_are_calls(_rt: HostRuntime) {
+    no_longer_token();
+    tokens_lie_in_order();
+    bad_places();
+    quoted_texts();
+    decimal_integers();
 }
