@@ -44,7 +44,7 @@ impl Key {
         ensures exact { IsTrue result ↔ (self.now ≡ other.now) }
         ensures test { result ≡ spec.same_key self.now other.now }
     {
-        self == other
+        *self == *other
     }
 }
 
@@ -78,7 +78,8 @@ fn is_one(a: &Shape, b: &Shape) -> bool
         (Shape::Int, Shape::Int) => true,
         (Shape::Named(a), Shape::Named(b)) => a == b,
         (Shape::Set(a), Shape::Set(b)) => is_one(a.get(), b.get()),
-        (Shape::Map(k, a), Shape::Map(l, b)) => is_one(k.get(), l.get()) && is_one(a.get(), b.get()),
+        (Shape::Map(k, a), Shape::Map(l, b)) => is_one(k.get(), l.get())
+            && is_one(a.get(), b.get()),
         (Shape::Optional(a), Shape::Optional(b)) => is_one(a.get(), b.get()),
         (Shape::Provider(a), Shape::Provider(b)) => is_one(a.get(), b.get()),
         (Shape::Lazy(a), Shape::Lazy(b)) => is_one(a.get(), b.get()),

@@ -56,7 +56,11 @@ const ROWS: &[Row] = &[
     ("A", "A", Some((Mode::Instance, "A"))),
     ("As", "Set<A>", Some((Mode::Instance, "Set<A>"))),
     ("TAm", "Map<Text,A>", Some((Mode::Instance, "Map<Text,A>"))),
-    ("ITm", "Map<Int,Text>", Some((Mode::Instance, "Map<Int,Text>"))),
+    (
+        "ITm",
+        "Map<Int,Text>",
+        Some((Mode::Instance, "Map<Int,Text>")),
+    ),
     (
         "IApm",
         "Map<Int,Provider<A>>",
@@ -82,7 +86,11 @@ const ROWS: &[Row] = &[
     ("Al", "Lazy<A>", Some((Mode::Lazy, "A"))),
     ("Alp", "Provider<Lazy<A>>", Some((Mode::ProviderLazy, "A"))),
     ("Asp", "Provider<Set<A>>", Some((Mode::Provider, "Set<A>"))),
-    ("Aol", "Lazy<Optional<A>>", Some((Mode::Lazy, "Optional<A>"))),
+    (
+        "Aol",
+        "Lazy<Optional<A>>",
+        Some((Mode::Lazy, "Optional<A>")),
+    ),
     (
         "Apop",
         "Provider<Optional<Provider<A>>>",
@@ -221,7 +229,11 @@ fn types_are_told_apart(rt: HostRuntime) -> Result<(), Fail> {
         let shape = built(rt.alloc(), letters)?;
         assert!(rt; shape.is(&shape.copy(rt.alloc())?));
         for (j, (others, _, _)) in ROWS.iter().enumerate() {
-            assert_eq!(rt; shape.is(&built(rt.alloc(), others)?), i == j, "{letters} {others}");
+            assert_eq!(rt;
+                shape.is(&built(rt.alloc(), others)?),
+                i == j,
+                "{letters} {others}"
+            );
         }
     }
     let base = Base::Named(Name::from_slice(rt.alloc(), b"A")?);
