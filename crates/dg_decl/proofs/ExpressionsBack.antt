@@ -154,7 +154,7 @@ parens_prim : (s : Written) (n : ℕ) (e : Expr) → IsRead s n e → IsPrim (pa
 parens_prim s n e r d le k size rest call =
     let below : s.depth ≤ d = omega (arith, le) in
     atom_prim d e (in_parens s.tokens ++ rest) rest k size
-      (paren_atom d e s.tokens rest (enclosed_back (expression_within d) e s.tokens rest (reads_whole s n e r d below (close_paren ∷ rest) (close_ends rest))))
+    (paren_atom d e s.tokens rest (enclosed_back (expression_within d) e s.tokens rest (reads_whole s n e r d below (close_paren ∷ rest) (close_ends rest))))
 
 parens_facts : (s : Written) (n : ℕ) → Facts s n → Facts (parens s) n
 unfolding comes comes_call

@@ -238,6 +238,7 @@ reaches_closed same law next roots k closed n (step m o w h) =
 
 -- as many steps as there are nodes are enough
 pub walks_among : {N : Type 0} (same : N → N → Bool) → Decides same → (next : N → List N) (xs roots : List N) → LeadsInto next xs → AreIn roots xs → (n : N) → IsTrue (is_within same next (length xs) roots n) ↔ IsReached next roots n
-walks_among same law next xs roots into begin n =
-    (λ h. walked_reaches same law next (length xs) roots n h,
-     λ w. reaches_closed same law next roots (length xs) (closed_at_all same law next xs roots into begin) n w)
+walks_among same law next xs roots into begin n = (
+  λ h. walked_reaches same law next (length xs) roots n h,
+  λ w. reaches_closed same law next roots (length xs) (closed_at_all same law next xs roots into begin) n w,
+)
