@@ -1,0 +1,12 @@
+//! Deques of asks for a fixed number of workers. Each worker has a hand: it pushes asks to a deque of its
+//! own and pops them there, and steals from the deques of the others.
+#![tactic(auto)]
+
+mod memory;
+mod own;
+mod reach;
+mod stolen;
+mod tally;
+
+pub use memory::NoMemory;
+pub use stolen::Stolen;

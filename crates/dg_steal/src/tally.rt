@@ -1,0 +1,60 @@
+// What a pass of a deque knows, the rule of a deque, and what each kind of step tells the pass that makes it.
+
+use crossbeam_deque::protocol::{Outcome, Protocol, Split};
+use std::collections::LinkedList;
+
+// What a pass knows: its number, whether it is the owner's, how many passes there are, what it pushed
+// and what it took. The last two are first to last. No value of it is made.
+pub struct Tally {
+    pub number: u64,
+    pub owns: bool,
+    pub passes: u64,
+    pub pushed: LinkedList<u32>,
+    pub taken: LinkedList<u32>,
+}
+
+pub struct EachOnce;
+
+impl Protocol<u32, Tally> for EachOnce {
+    ghost use Rattle.std.specs.Prelude.{true, false, []};
+    ghost use Rattle.dg_steal.specs.Rule.{Keeps, owner, other};
+
+    ghost holds = { Keeps };
+
+    ghost first = { owner 1 };
+
+    ghost guest = { other 0 };
+}
+
+// An ask joins the deque at the back.
+pub struct Push;
+
+impl Outcome<u32, Tally> for Push {
+    ghost use Rattle.std.specs.Prelude.{◌≡◌};
+    ghost use Rattle.dg_steal.specs.Rule.{pushing};
+
+    ghost then = { λ t asks u. u ≡ pushing asks t };
+}
+
+// An ask leaves the deque at the front.
+pub struct Take;
+
+impl Outcome<u32, Tally> for Take {
+    ghost use Rattle.std.specs.Prelude.{◌≡◌, []};
+    ghost use Rattle.dg_steal.specs.Rule.{taking, Took, Holds};
+
+    ghost then = { λ t asks u. (u ≡ taking asks t) × Took asks t };
+
+    ghost empty = { λ t. Holds [] t };
+}
+
+// A pass is made for another worker.
+pub struct Open;
+
+impl Split<Tally> for Open {
+    ghost use Rattle.dg_steal.specs.Rule.{opening, other};
+
+    ghost left = { opening };
+
+    ghost right = { λ t. other t.passes };
+}
