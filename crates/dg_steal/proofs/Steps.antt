@@ -10,7 +10,7 @@ use lib.ListN.{get_elem?}
 use Rattle.crossbeam_deque.specs.Tasks.{Pushes, Takes, Finds, FindsFew, Forks}
 use Rattle.crossbeam_deque.proofs.Lists.{at_set, at_snoc}
 use Rattle.dg_steal.specs.declared.tally.Tally.{Tally}
-use Rattle.dg_steal.specs.Rule.{tally, owner, other, pushing, taking, opening, Taking, asks_of, taken_by, Fits, Keeps, Holds, Took}
+use Rattle.dg_steal.specs.Rule.{tally, owner, other, pushing, taking, opening, Taking, asks_of, taken_by, Fits, Keeps, Steps, Adds, Removes, Pushed, Took, WasEmpty}
 
 -- these asks, as takings of one pass
 abbrev marked : ℕ → List ℕ → List Taking
@@ -72,27 +72,32 @@ begins =
       λ pass past. refl,
     )
 
-pub pushes : (pass : ℕ) (t : Tally) (asks : List ℕ) → t.owns ≡ true → Pushes Keeps pass t asks (λ u. u ≡ pushing asks t)
+-- a step at the place of a pass is one at its number
+steps : (pass : ℕ) (t u : Tally) (before after : List ℕ) (tallies : List Tally) → t.number ≡ pass → get_elem? tallies pass ≡ some t → Keeps before tallies → Keeps after (set tallies pass u) → Steps before after t u
+steps pass t u before after tallies e at h kept =
+    (tallies, subst (λ n. get_elem? tallies n ≡ some t) (sym e) at, h, subst (λ n. Keeps after (set tallies n u)) (sym e) kept)
+
+pub pushes : (pass : ℕ) (t : Tally) (asks : List ℕ) → t.owns ≡ true → Pushes Keeps pass t asks (Pushed asks t)
+unfolding Adds
 pushes pass t asks owns items tallies h at =
     let mine = h.3 pass t at in
     let u = pushing asks t in
     let pushed = h.0 ++ asks in
-    let long : length (set tallies pass u) ≡ length tallies = length-set tallies pass u in (
-      u,
-      (
-        pushed,
-        h.1,
-        ap (λ l. l ++ asks) h.2 ∙ append_assoc (asks_of h.1) items asks,
-        subst (λ n. All (Fits pushed h.1 n) (set tallies pass u)) (sym long)
-        (all_set (Fits pushed h.1 (length tallies)) tallies pass u
-            (mine.0, mine.1, λ o. ((mine.2 o).0, ap (λ l. l ++ asks) (mine.2 o).1, (mine.2 o).2))
-            (λ j s apart e. let theirs = h.3 j s e in (theirs.0, theirs.1, λ o. absurd (apart ((theirs.2 o).0 ∙ sym (mine.2 owns).0))))),
-        λ j past. h.4 j (subst (λ n. n ≤ j) long past),
-      ),
-      refl,
-    )
+    let long : length (set tallies pass u) ≡ length tallies = length-set tallies pass u in
+    let kept : Keeps (items ++ asks) (set tallies pass u) = (
+      pushed,
+      h.1,
+      ap (λ l. l ++ asks) h.2 ∙ append_assoc (asks_of h.1) items asks,
+      subst (λ n. All (Fits pushed h.1 n) (set tallies pass u)) (sym long)
+      (all_set (Fits pushed h.1 (length tallies)) tallies pass u
+          (mine.0, mine.1, λ o. ((mine.2 o).0, ap (λ l. l ++ asks) (mine.2 o).1, (mine.2 o).2))
+          (λ j s apart e. let theirs = h.3 j s e in (theirs.0, theirs.1, λ o. absurd (apart ((theirs.2 o).0 ∙ sym (mine.2 owns).0))))),
+      λ j past. h.4 j (subst (λ n. n ≤ j) long past),
+    ) in
+    (u, kept, (refl, (items, steps pass t u items (items ++ asks) tallies mine.0 at h kept)))
 
-pub takes : (pass : ℕ) (t : Tally) → Takes Keeps pass t 1 (λ asks u. (u ≡ taking asks t) × Took asks t)
+pub takes : (pass : ℕ) (t : Tally) → Takes Keeps pass t 1 (λ asks u. Took asks t u)
+unfolding Removes
 takes pass t asks items tallies _ _ h at =
     let mine = h.3 pass t at in
     let u = taking asks t in
@@ -100,25 +105,24 @@ takes pass t asks items tallies _ _ h at =
     let inside : pass < length tallies = there tallies pass t at in
     let same : (j : ℕ) → j ≢ pass → taken_by j takings ≡ taken_by j h.1 = λ j apart.
         taken_by-append j h.1 (marked pass asks) ∙ ap (λ l. taken_by j h.1 ++ l) (taken_by-others j pass asks (λ e. apart (sym e))) ∙ append-nil (taken_by j h.1) in
-    let long : length (set tallies pass u) ≡ length tallies = length-set tallies pass u in (
-      u,
-      (
-        h.0,
-        takings,
-        h.2 ∙ sym (append_assoc (asks_of h.1) asks items) ∙ ap (λ l. l ++ items) (ap (λ l. asks_of h.1 ++ l) (sym (asks_of-marked pass asks)) ∙ sym (map-append (λ (s : Taking). s.1) h.1 (marked pass asks))),
-        subst (λ n. All (Fits h.0 takings n) (set tallies pass u)) (sym long)
-        (all_set (Fits h.0 takings (length tallies)) tallies pass u
-            (mine.0, ap (λ l. l ++ asks) mine.1 ∙ ap (λ l. taken_by pass h.1 ++ l) (sym (taken_by-marked pass asks)) ∙ sym (taken_by-append pass h.1 (marked pass asks)), mine.2)
-            (λ j s apart e. let theirs = h.3 j s e in (theirs.0, theirs.1 ∙ sym (same j apart), theirs.2))),
-        λ j past. let far : length tallies ≤ j = subst (λ n. n ≤ j) long past in same j (λ e. omega arith) ∙ h.4 j far,
-      ),
-      (refl, (items, (tallies, h, subst (λ n. get_elem? tallies n ≡ some t) (sym mine.0) at))),
-    )
+    let long : length (set tallies pass u) ≡ length tallies = length-set tallies pass u in
+    let kept : Keeps items (set tallies pass u) = (
+      h.0,
+      takings,
+      h.2 ∙ sym (append_assoc (asks_of h.1) asks items) ∙ ap (λ l. l ++ items) (ap (λ l. asks_of h.1 ++ l) (sym (asks_of-marked pass asks)) ∙ sym (map-append (λ (s : Taking). s.1) h.1 (marked pass asks))),
+      subst (λ n. All (Fits h.0 takings n) (set tallies pass u)) (sym long)
+      (all_set (Fits h.0 takings (length tallies)) tallies pass u
+          (mine.0, ap (λ l. l ++ asks) mine.1 ∙ ap (λ l. taken_by pass h.1 ++ l) (sym (taken_by-marked pass asks)) ∙ sym (taken_by-append pass h.1 (marked pass asks)), mine.2)
+          (λ j s apart e. let theirs = h.3 j s e in (theirs.0, theirs.1 ∙ sym (same j apart), theirs.2))),
+      λ j past. let far : length tallies ≤ j = subst (λ n. n ≤ j) long past in same j (λ e. omega arith) ∙ h.4 j far,
+    ) in
+    (u, kept, (refl, (items, steps pass t u (asks ++ items) items tallies mine.0 at h kept)))
 
-pub finds : (pass : ℕ) (t : Tally) → Finds Keeps pass t (Holds [] t)
-finds pass t tallies h at = (tallies, h, subst (λ n. get_elem? tallies n ≡ some t) (sym (h.3 pass t at).0) at)
+pub finds : (pass : ℕ) (t : Tally) → Finds Keeps pass t (WasEmpty t)
+unfolding WasEmpty
+finds pass t tallies h at = (tallies, subst (λ n. get_elem? tallies n ≡ some t) (sym (h.3 pass t at).0) at, h)
 
-pub finds_few : (flavor pass : ℕ) (t : Tally) → flavor ≡ 0 → FindsFew Keeps (min flavor 1) pass t (Holds [] t)
+pub finds_few : (flavor pass : ℕ) (t : Tally) → flavor ≡ 0 → FindsFew Keeps (min flavor 1) pass t (WasEmpty t)
 finds_few flavor pass t fifo items tallies few h at =
     let none : items ≡ [] = nothing items (subst (λ n. length items ≤ min n 1) fifo few) in
     finds pass t tallies (subst (λ l. Keeps l tallies) none h) at

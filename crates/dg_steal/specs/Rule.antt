@@ -1,5 +1,5 @@
 -- The rule of a deque: what was pushed to it is what its passes took, in one order, and then what it holds.
-use Rattle.std.specs.Prelude.{◌≡◌, ℕ, ◌+◌, ◌≤◌, Bool, true, false, List, [], ◌∷◌, ◌++◌, length, map, filter, nat_eq}
+use Rattle.std.specs.Prelude.{◌≡◌, ℕ, ◌+◌, ◌≤◌, Bool, true, false, List, [], ◌∷◌, ◌++◌, length, map, filter, nat_eq, slice_set}
 use mathlib.Core.Option.{some}
 use lib.ListN.{get_elem?}
 use Rattle.dg_steal.specs.declared.tally.Tally.{Tally}
@@ -53,10 +53,28 @@ Keeps items tallies =
     × ((pass : ℕ) (t : Tally) → get_elem? tallies pass ≡ some t → Fits pushed takings (length tallies) pass t)
     × ((pass : ℕ) → length tallies ≤ pass → taken_by pass takings ≡ [])
 
--- at one moment the deque of this pass held these asks, by its rule, and the pass knew this
-abbrev pub Holds : List ℕ → Tally → Type 0
-Holds items t = (tallies : List Tally) × Keeps items tallies × (get_elem? tallies t.number ≡ some t)
+-- a step of a pass: the deque held the asks `before` and then the asks `after`, by its rule. The pass that knew t knows u from then on, and no other pass knows more
+abbrev pub Steps : List ℕ → List ℕ → Tally → Tally → Type 0
+Steps before after t u =
+    (tallies : List Tally) × (get_elem? tallies t.number ≡ some t)
+    × Keeps before tallies × Keeps after (slice_set tallies t.number u)
 
--- at one moment these asks were the first of the deque of this pass, and the pass knew this
-abbrev pub Took : List ℕ → Tally → Type 0
-Took asks t = (items : List ℕ) × Holds (asks ++ items) t
+-- in a step of the pass these asks came to the deque, at its back
+unfoldable pub Adds : List ℕ → Tally → Tally → Type 0
+Adds asks t u = (items : List ℕ) × Steps items (items ++ asks) t u
+
+-- in a step of the pass these asks left the deque, of which they were the first
+unfoldable pub Removes : List ℕ → Tally → Tally → Type 0
+Removes asks t u = (items : List ℕ) × Steps (asks ++ items) items t u
+
+-- the pass pushed these asks, and knows it
+abbrev pub Pushed : List ℕ → Tally → Tally → Type 0
+Pushed asks t u = (u ≡ pushing asks t) × Adds asks t u
+
+-- the pass took these asks, and knows it
+abbrev pub Took : List ℕ → Tally → Tally → Type 0
+Took asks t u = (u ≡ taking asks t) × Removes asks t u
+
+-- at one moment the deque of the pass held nothing, by its rule, and the pass knew this
+unfoldable pub WasEmpty : Tally → Type 0
+WasEmpty t = (tallies : List Tally) × (get_elem? tallies t.number ≡ some t) × Keeps [] tallies

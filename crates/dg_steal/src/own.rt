@@ -1,7 +1,7 @@
 // The deque of a worker, as that worker uses it.
 ghost use Rattle.std.specs.Prelude.{◌≡◌, ◌≤◌, [], ◌∷◌, IfOk, IfErr, IfSome, IfNone, length};
 ghost use Rattle.dg_steal.specs.Known.{owning, room};
-ghost use Rattle.dg_steal.specs.Rule.{owner, other, pushing, taking, opening, Took, Holds};
+ghost use Rattle.dg_steal.specs.Rule.{owner, other, opening, Pushed, Took, WasEmpty};
 
 use crate::memory::NoMemory;
 use crate::reach::Reach;
@@ -50,7 +50,7 @@ impl Own {
     }
 
     pub fn push(&mut self, ask: u32) -> Result<(), u32>
-        ensures exact { IfOk result (λ _. self.new ≡ owning self.old.deque (pushing (ask ∷ []) self.old.tally)) }
+        ensures exact { IfOk result (λ _. (self.new.deque ≡ self.old.deque) × Pushed (ask ∷ []) self.old.tally self.new.tally) }
         ensures kept { IfErr result (λ back. (back ≡ ask) × (self.new ≡ self.old)) }
         ensures cause { IfErr result (λ _. room ≤ length self.old.tally.pushed) }
     {
@@ -58,9 +58,9 @@ impl Own {
     }
 
     pub fn pop(&mut self) -> Option<u32>
-        ensures exact { IfSome result (λ ask. Took (ask ∷ []) self.old.tally × (self.new ≡ owning self.old.deque (taking (ask ∷ []) self.old.tally))) }
+        ensures exact { IfSome result (λ ask. (self.new.deque ≡ self.old.deque) × Took (ask ∷ []) self.old.tally self.new.tally) }
         ensures kept { IfNone result (self.new ≡ self.old) }
-        ensures cause { IfNone result (Holds [] self.old.tally) }
+        ensures cause { IfNone result (WasEmpty self.old.tally) }
     {
         self.worker.pop_as::<Take>()
     }

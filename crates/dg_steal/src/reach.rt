@@ -1,7 +1,7 @@
 // The deque of another worker, as this worker takes from it.
 ghost use Rattle.std.specs.Prelude.{◌≡◌, ◌<◌, ◌⊎◌, [], ◌∷◌};
 ghost use Rattle.dg_steal.specs.Known.{MatchStolen};
-ghost use Rattle.dg_steal.specs.Rule.{taking, Took, Holds};
+ghost use Rattle.dg_steal.specs.Rule.{Took, WasEmpty};
 
 use crate::stolen::Stolen;
 use crate::tally::{EachOnce, Take, Tally};
@@ -30,8 +30,8 @@ impl Model for Reach {
 impl Reach {
     pub fn steal(&mut self) -> Stolen
         ensures deque { self.new.deque ≡ self.old.deque }
-        ensures tally { MatchStolen result (λ ask. Took (ask ∷ []) self.old.tally × (self.new.tally ≡ taking (ask ∷ []) self.old.tally)) (self.new.tally ≡ self.old.tally) (self.new.tally ≡ self.old.tally) }
-        ensures cause { MatchStolen result (λ _. Unit {0}) (Holds [] self.old.tally) ((self.old.gone < self.new.gone) ⊎ Holds [] self.old.tally) }
+        ensures exact { MatchStolen result (λ ask. Took (ask ∷ []) self.old.tally self.new.tally) (self.new.tally ≡ self.old.tally) (self.new.tally ≡ self.old.tally) }
+        ensures cause { MatchStolen result (λ _. Unit {0}) (WasEmpty self.old.tally) ((self.old.gone < self.new.gone) ⊎ WasEmpty self.old.tally) }
     {
         match self.stealer.steal_as::<Take>(&mut self.pass) {
             Steal::Success(ask) => Stolen::Ask(ask),

@@ -30,22 +30,20 @@ impl Protocol<u32, Tally> for EachOnce {
 pub struct Push;
 
 impl Outcome<u32, Tally> for Push {
-    ghost use Rattle.std.specs.Prelude.{◌≡◌};
-    ghost use Rattle.dg_steal.specs.Rule.{pushing};
+    ghost use Rattle.dg_steal.specs.Rule.{Pushed};
 
-    ghost then = { λ t asks u. u ≡ pushing asks t };
+    ghost then = { λ t asks u. Pushed asks t u };
 }
 
 // An ask leaves the deque at the front.
 pub struct Take;
 
 impl Outcome<u32, Tally> for Take {
-    ghost use Rattle.std.specs.Prelude.{◌≡◌, []};
-    ghost use Rattle.dg_steal.specs.Rule.{taking, Took, Holds};
+    ghost use Rattle.dg_steal.specs.Rule.{Took, WasEmpty};
 
-    ghost then = { λ t asks u. (u ≡ taking asks t) × Took asks t };
+    ghost then = { λ t asks u. Took asks t u };
 
-    ghost empty = { λ t. Holds [] t };
+    ghost empty = { WasEmpty };
 }
 
 // A pass is made for another worker.
