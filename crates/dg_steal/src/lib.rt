@@ -2,11 +2,13 @@
 //! own and pops them there, and steals from the deques of the others.
 #![tactic(auto)]
 
+mod hand;
 mod memory;
 mod own;
 mod reach;
 mod stolen;
 mod tally;
 
+pub use hand::Hand;
 pub use memory::NoMemory;
 pub use stolen::Stolen;

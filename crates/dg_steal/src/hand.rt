@@ -1,0 +1,83 @@
+ghost use Rattle.std.specs.Prelude.{◌≡◌, ◌<◌, ◌≤◌, ◌⊎◌, [], ◌∷◌, IfOk, IfErr, IfSome, IfNone, length};
+ghost use Rattle.dg_steal.specs.Known.{known, room, reached, IsOther, OwnDoes, OtherDoes, Stays, MatchStolen, Meet};
+ghost use Rattle.dg_steal.specs.Rule.{Pushed, Took, WasEmpty};
+
+use crate::memory::NoMemory;
+use crate::own::Own;
+use crate::reach::Reach;
+use crate::stolen::Stolen;
+use std::marker::Model;
+
+/// The end of the deques that one worker has: it owns the deque of its number, and takes from those of the
+/// other workers. A hand may go to another thread. Contracts see what the hand knows: which worker it is, what
+/// it pushed, what it took from each deque, and how many asks it knows to be gone from those of the others.
+#[derive(Drop)]
+pub struct Hand {
+    number: u32,
+    own: Own,
+    others: Vec<Reach>,
+}
+
+impl Model for Hand {
+    ghost use Rattle.std.specs.Prelude.{◌≤◌, length};
+    ghost use Rattle.dg_steal.specs.Known.{Known, known};
+
+    ghost Value = { Known };
+
+    ghost view = { λ h. known h.number h.own h.others.items };
+
+    ghost invariant = { λ h. h.number ≤ length h.others.items };
+}
+
+impl Hand {
+    /// Puts the ask at the back of this worker's deque. `Err` hands it back, where the deque could not grow:
+    /// the worker then runs the ask at once.
+    pub fn push(&mut self, ask: u32) -> Result<(), u32>
+        ensures exact { IfOk result (λ _. OwnDoes (Pushed (ask ∷ [])) self.old self.new) }
+        ensures kept { IfErr result (λ back. (back ≡ ask) × (self.new ≡ self.old)) }
+        ensures cause { IfErr result (λ _. room ≤ length self.old.own.tally.pushed) }
+    {
+        self.own.push(ask)
+    }
+
+    /// Takes the first ask of this worker's deque.
+    pub fn pop(&mut self) -> Option<u32>
+        ensures exact { IfSome result (λ ask. OwnDoes (Took (ask ∷ [])) self.old self.new) }
+        ensures kept { IfNone result (self.new ≡ self.old) }
+        ensures cause { IfNone result (WasEmpty self.old.own.tally) }
+    {
+        self.own.pop()
+    }
+
+    /// Takes the first ask of the deque of another worker, by its number.
+    pub fn steal(&mut self, from: u32) -> Stolen
+        requires { IsOther self.old from }
+        ensures exact { MatchStolen result (λ ask. OtherDoes from (Took (ask ∷ [])) self.old self.new) (OtherDoes from Stays self.old self.new) (OtherDoes from Stays self.old self.new) }
+        ensures cause { MatchStolen result (λ _. Unit {0}) (WasEmpty (reached from self.old).tally) (((reached from self.old).gone < (reached from self.new).gone) ⊎ WasEmpty (reached from self.old).tally) }
+    {
+        let place = if from < self.number { from } else { from - 1 };
+        let reach = &mut self.others[place as usize];
+        reach.steal()
+    }
+
+    // A hand that so far has its own deque alone.
+    pub(crate) fn new(number: u32, own: Own, others: Vec<Reach>) -> Hand
+        requires { number ≤ length others.items }
+        ensures exact { result ≡ known number own others.items }
+    {
+        Hand {
+            number,
+            own,
+            others,
+        }
+    }
+
+    // Gives a worker whose own deque this is a way to this one's deque, and takes one to that deque.
+    pub(crate) fn meet(&mut self, own: &mut Own) -> Result<Reach, NoMemory>
+        ensures exact { IfOk result (λ theirs. Meet self.old own.old self.new own.new theirs) }
+    {
+        let mine = own.open()?;
+        self.others.push(mine)?;
+        self.own.open()
+    }
+}
