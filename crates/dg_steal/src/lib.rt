@@ -3,6 +3,7 @@
 #![tactic(auto)]
 
 mod hand;
+mod making;
 mod memory;
 mod own;
 mod reach;
@@ -10,5 +11,6 @@ mod stolen;
 mod tally;
 
 pub use hand::Hand;
+pub use making::hands;
 pub use memory::NoMemory;
 pub use stolen::Stolen;
