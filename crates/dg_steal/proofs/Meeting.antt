@@ -91,27 +91,27 @@ goes_on old deque i now own others h h' own' theirs m at meet =
       rest = λ k past. get_set_other now i k h' (λ e. omega arith) ∙ m.rest k (omega arith);
       met = λ k g below was. ⊎_elim
           (λ (e : k ≡ i). let same : h ≡ g = some_same h g (sym at ∙ ap (slice_get now) (sym e) ∙ m.rest k (omega arith) ∙ was) in
-            record {
-              mine = meet.3.0;
-              theirs = theirs;
-              hand = rw (e, ← same) (get_set_same now i h' inside ∙ ap Some meet.3.3);
-              mine_deque = meet.3.1 ∙ ap (λ (o : Owned). o.deque) m.own_is;
-              mine_tally = meet.3.2 ∙ ap (λ (o : Owned). other o.tally.passes) m.own_is ∙ ap (λ n. other (n + 1)) (sym e);
-              way = get_last others theirs k (e ∙ sym m.made);
-              theirs_deque = meet.1 ∙ ap (λ (x : Known). x.own.deque) same;
-              theirs_tally = meet.2 ∙ ap (λ (x : Known). other x.own.tally.passes) same;
-            })
+          record {
+            mine = meet.3.0;
+            theirs = theirs;
+            hand = rw (e, ← same) (get_set_same now i h' inside ∙ ap Some meet.3.3);
+            mine_deque = meet.3.1 ∙ ap (λ (o : Owned). o.deque) m.own_is;
+            mine_tally = meet.3.2 ∙ ap (λ (o : Owned). other o.tally.passes) m.own_is ∙ ap (λ n. other (n + 1)) (sym e);
+            way = get_last others theirs k (e ∙ sym m.made);
+            theirs_deque = meet.1 ∙ ap (λ (x : Known). x.own.deque) same;
+            theirs_tally = meet.2 ∙ ap (λ (x : Known). other x.own.tally.passes) same;
+          })
           (λ (lt : k < i). let b = m.met k g lt was in
-            record {
-              mine = b.mine;
-              theirs = b.theirs;
-              hand = get_set_other now i k h' (λ e. omega arith) ∙ b.hand;
-              mine_deque = b.mine_deque;
-              mine_tally = b.mine_tally;
-              way = get_front others theirs k (let n : length others ≡ i = m.made in omega arith) ∙ b.way;
-              theirs_deque = b.theirs_deque;
-              theirs_tally = b.theirs_tally;
-            })
+          record {
+            mine = b.mine;
+            theirs = b.theirs;
+            hand = get_set_other now i k h' (λ e. omega arith) ∙ b.hand;
+            mine_deque = b.mine_deque;
+            mine_tally = b.mine_tally;
+            way = get_front others theirs k (let n : length others ≡ i = m.made in omega arith) ∙ b.way;
+            theirs_deque = b.theirs_deque;
+            theirs_tally = b.theirs_tally;
+          })
           (here_or_below k i below);
     }
 
@@ -170,19 +170,20 @@ module _ (old : List Known) (deque : ℕ × ℕ) (now : List Known) (own : Owned
         ap (λ k. k + 1) (length-append g.others (b.mine ∷ []) ∙ ways) ∙ sym longer,
         λ from o found apart. ⊎_elim
             (λ (h : (from < length now) × (slice_get now from ≡ Some o)).
-                let f = there_now from o h.0 h.1 in
-                let inside = slice_get_within old from f.0 f.1 in
-                let way = n.3 from f.0 f.1 apart in
-                let near : place g.worker from < length g.others = rw is (place_inside worker from (length g.others) (omega arith) (omega arith) apart) in
-                let same = reached_front g (owning g.own.deque (opening g.own.tally)) b.mine from near in
-                (ap (λ (r : Reached). r.deque) same ∙ way.0 ∙ sym f.3, ap (λ (r : Reached). r.tally) same ∙ way.1))
+            let f = there_now from o h.0 h.1 in
+            let inside = slice_get_within old from f.0 f.1 in
+            let way = n.3 from f.0 f.1 apart in
+            let near : place g.worker from < length g.others = rw is (place_inside worker from (length g.others) (omega arith) (omega arith) apart) in
+            let same = reached_front g (owning g.own.deque (opening g.own.tally)) b.mine from near in
+            (ap (λ (r : Reached). r.deque) same ∙ way.0 ∙ sym f.3, ap (λ (r : Reached). r.tally) same ∙ way.1))
             (λ (h : (from ≡ length now) × (newest own others ≡ o)).
-                let count = m.count in
-                let last = h.0 in
-                let far : place g.worker from ≡ length g.others = rw is (place_above worker from (omega arith) ∙ omega arith) in
-                let same = reached_last g (owning g.own.deque (opening g.own.tally)) b.mine from far in
-                (ap (λ (r : Reached). r.deque) same ∙ b.mine_deque ∙ sym (ap (λ (o : Owned). o.deque) m.own_is) ∙ ap (λ (x : Known). x.own.deque) h.1,
-                 ap (λ (r : Reached). r.tally) same ∙ b.mine_tally ∙ ap (λ k. other (k + 1)) (sym (place_below from worker (omega arith)))))
+            let count = m.count in
+            let last = h.0 in
+            let far : place g.worker from ≡ length g.others = rw is (place_above worker from (omega arith) ∙ omega arith) in
+            let same = reached_last g (owning g.own.deque (opening g.own.tally)) b.mine from far in (
+              ap (λ (r : Reached). r.deque) same ∙ b.mine_deque ∙ sym (ap (λ (o : Owned). o.deque) m.own_is) ∙ ap (λ (x : Known). x.own.deque) h.1,
+              ap (λ (r : Reached). r.tally) same ∙ b.mine_tally ∙ ap (λ k. other (k + 1)) (sym (place_below from worker (omega arith))),
+            ))
             (get_cases now (newest own others) o from found),
       )
 
@@ -194,14 +195,15 @@ module _ (old : List Known) (deque : ℕ × ℕ) (now : List Known) (own : Owned
         ap (λ k. k + 1) made ∙ sym longer,
         λ from o found apart. ⊎_elim
             (λ (h : (from < length now) × (slice_get now from ≡ Some o)).
-                let count = m.count in
-                let below = h.0 in
-                let f = there_now from o h.0 h.1 in
-                let b = f.2 in
-                let here : place (length others) from ≡ from = place_below (length others) from (omega arith) in
-                let same : reached from (newest own others) ≡ b.theirs = get_or_from_slice_get others (place (length others) from) b.theirs (reaching (0, 0) (other 0) 0) (ap (slice_get others) here ∙ b.way) in
-                (ap (λ (r : Reached). r.deque) same ∙ b.theirs_deque ∙ sym f.3,
-                 ap (λ (r : Reached). r.tally) same ∙ b.theirs_tally ∙ ap (λ (t : Tally). other t.passes) (new from f.0 f.1).1 ∙ ap other (let p = place_above from (length others) (omega arith) in omega arith)))
+            let count = m.count in
+            let below = h.0 in
+            let f = there_now from o h.0 h.1 in
+            let b = f.2 in
+            let here : place (length others) from ≡ from = place_below (length others) from (omega arith) in
+            let same : reached from (newest own others) ≡ b.theirs = get_or_from_slice_get others (place (length others) from) b.theirs (reaching (0, 0) (other 0) 0) (ap (slice_get others) here ∙ b.way) in (
+              ap (λ (r : Reached). r.deque) same ∙ b.theirs_deque ∙ sym f.3,
+              ap (λ (r : Reached). r.tally) same ∙ b.theirs_tally ∙ ap (λ (t : Tally). other t.passes) (new from f.0 f.1).1 ∙ ap other (let p = place_above from (length others) (omega arith) in omega arith),
+            ))
             (λ (h : (from ≡ length now) × (newest own others ≡ o)). let count = m.count in let at = h.0 in absurd (apart (omega arith)))
             (get_cases now (newest own others) o from found),
       )
@@ -209,16 +211,16 @@ module _ (old : List Known) (deque : ℕ × ℕ) (now : List Known) (own : Owned
   pub ends : AreNew all
   ends worker h at = ⊎_elim
       (λ (e : (worker < length now) × (slice_get now worker ≡ Some h)).
-          let count = m.count in
-          let below = e.0 in
-          let g = get_there old worker (omega arith) in
-          let b = m.met worker g.0 (omega arith) g.1 in
-          subst (λ (x : Known). IsNew all worker x) (some_same (after g.0 b.mine) h (sym b.hand ∙ e.1)) (earlier worker g.0 g.1 b))
+      let count = m.count in
+      let below = e.0 in
+      let g = get_there old worker (omega arith) in
+      let b = m.met worker g.0 (omega arith) g.1 in
+      subst (λ (x : Known). IsNew all worker x) (some_same (after g.0 b.mine) h (sym b.hand ∙ e.1)) (earlier worker g.0 g.1 b))
       (λ (e : (worker ≡ length now) × (newest own others ≡ h)).
-          let count = m.count in
-          let made = m.made in
-          let at : length others ≡ worker = (let k = e.0 in omega arith) in
-          subst (λ (y : ℕ × Known). IsNew all y.0 y.1) (λ i. (at i, e.1 i)) last)
+      let count = m.count in
+      let made = m.made in
+      let at : length others ≡ worker = (let k = e.0 in omega arith) in
+      subst (λ (y : ℕ × Known). IsNew all y.0 y.1) (λ i. (at i, e.1 i)) last)
       (get_cases now (newest own others) h worker at)
 
 -- a list that was lent whole

@@ -89,7 +89,7 @@ pushes pass t asks owns items tallies h at =
       h.1,
       ap (λ l. l ++ asks) h.2 ∙ append_assoc (asks_of h.1) items asks,
       subst (λ n. All (Fits pushed h.1 n) (set tallies pass u)) (sym long)
-      (all_set (Fits pushed h.1 (length tallies)) tallies pass u
+          (all_set (Fits pushed h.1 (length tallies)) tallies pass u
           (mine.0, mine.1, λ o. ((mine.2 o).0, ap (λ l. l ++ asks) (mine.2 o).1, (mine.2 o).2))
           (λ j s apart e. let theirs = h.3 j s e in (theirs.0, theirs.1, λ o. absurd (apart ((theirs.2 o).0 ∙ sym (mine.2 owns).0))))),
       λ j past. h.4 j (subst (λ n. n ≤ j) long past),
@@ -104,14 +104,14 @@ takes pass t asks items tallies _ _ h at =
     let takings = h.1 ++ marked pass asks in
     let inside : pass < length tallies = there tallies pass t at in
     let same : (j : ℕ) → j ≢ pass → taken_by j takings ≡ taken_by j h.1 = λ j apart.
-        taken_by-append j h.1 (marked pass asks) ∙ ap (λ l. taken_by j h.1 ++ l) (taken_by-others j pass asks (λ e. apart (sym e))) ∙ append-nil (taken_by j h.1) in
+    taken_by-append j h.1 (marked pass asks) ∙ ap (λ l. taken_by j h.1 ++ l) (taken_by-others j pass asks (λ e. apart (sym e))) ∙ append-nil (taken_by j h.1) in
     let long : length (set tallies pass u) ≡ length tallies = length-set tallies pass u in
     let kept : Keeps items (set tallies pass u) = (
       h.0,
       takings,
       h.2 ∙ sym (append_assoc (asks_of h.1) asks items) ∙ ap (λ l. l ++ items) (ap (λ l. asks_of h.1 ++ l) (sym (asks_of-marked pass asks)) ∙ sym (map-append (λ (s : Taking). s.1) h.1 (marked pass asks))),
       subst (λ n. All (Fits h.0 takings n) (set tallies pass u)) (sym long)
-      (all_set (Fits h.0 takings (length tallies)) tallies pass u
+          (all_set (Fits h.0 takings (length tallies)) tallies pass u
           (mine.0, ap (λ l. l ++ asks) mine.1 ∙ ap (λ l. taken_by pass h.1 ++ l) (sym (taken_by-marked pass asks)) ∙ sym (taken_by-append pass h.1 (marked pass asks)), mine.2)
           (λ j s apart e. let theirs = h.3 j s e in (theirs.0, theirs.1 ∙ sym (same j apart), theirs.2))),
       λ j past. let far : length tallies ≤ j = subst (λ n. n ≤ j) long past in same j (λ e. omega arith) ∙ h.4 j far,
@@ -136,16 +136,16 @@ forks pass t owns items tallies h at =
     let longer : length (set tallies pass u ++ right ∷ []) ≡ length tallies + 1 = length-append (set tallies pass u) (right ∷ []) ∙ ap (λ n. n + 1) long in
     let count : t.passes ≡ length tallies = (mine.2 owns).2 in
     let old : All (Fits h.0 h.1 (length tallies + 1)) (set tallies pass u) =
-      all_set (Fits h.0 h.1 (length tallies + 1)) tallies pass u (mine.0, mine.1, λ o. ((mine.2 o).0, (mine.2 o).1, ap (λ n. n + 1) (mine.2 o).2))
-          (λ j s apart e. let theirs = h.3 j s e in (theirs.0, theirs.1, λ o. absurd (apart ((theirs.2 o).0 ∙ sym (mine.2 owns).0)))) in (
+    all_set (Fits h.0 h.1 (length tallies + 1)) tallies pass u (mine.0, mine.1, λ o. ((mine.2 o).0, (mine.2 o).1, ap (λ n. n + 1) (mine.2 o).2))
+    (λ j s apart e. let theirs = h.3 j s e in (theirs.0, theirs.1, λ o. absurd (apart ((theirs.2 o).0 ∙ sym (mine.2 owns).0)))) in (
       h.0,
       h.1,
       h.2,
       λ j s e. subst (λ n. Fits h.0 h.1 n j s) (sym longer)
           (⊎_elim (λ (x : get_elem? (set tallies pass u) j ≡ some s). old j s x)
-              (λ (x : (j ≡ length (set tallies pass u)) × (right ≡ s)).
-                  subst (λ (y : Tally). Fits h.0 h.1 (length tallies + 1) j y) x.1
-                  (count ∙ sym long ∙ sym x.0, sym (h.4 j (let m : j ≡ length tallies = x.0 ∙ long in omega arith)), λ o. absurd (true≢false (sym o))))
-              (snoc_at (set tallies pass u) right s j e)),
+          (λ (x : (j ≡ length (set tallies pass u)) × (right ≡ s)).
+          subst (λ (y : Tally). Fits h.0 h.1 (length tallies + 1) j y) x.1
+          (count ∙ sym long ∙ sym x.0, sym (h.4 j (let m : j ≡ length tallies = x.0 ∙ long in omega arith)), λ o. absurd (true≢false (sym o))))
+          (snoc_at (set tallies pass u) right s j e)),
       λ j past. h.4 j (let far : length tallies + 1 ≤ j = subst (λ n. n ≤ j) longer past in omega arith),
     )

@@ -74,7 +74,7 @@ abbrev pub IsNew : List Known → ℕ → Known → Type 0
 IsNew hands worker h =
     (h.worker ≡ worker) × (h.own.tally ≡ owner (length hands)) × (length h.others + 1 ≡ length hands)
     × ((from : ℕ) (o : Known) → slice_get hands from ≡ Some o → from ≢ worker
-      → ((reached from h).deque ≡ o.own.deque) × ((reached from h).tally ≡ other (place from worker + 1)))
+    → ((reached from h).deque ≡ o.own.deque) × ((reached from h).tally ≡ other (place from worker + 1)))
 
 -- they are new hands, in the order of their workers, and one for each
 abbrev pub AreNew : List Known → Type 0
@@ -85,4 +85,4 @@ abbrev pub Meet : Known → Owned → Known → Owned → Reached → Type 0
 Meet hand own hand' own' theirs =
     (own' ≡ owning own.deque (opening own.tally)) × (theirs.deque ≡ hand.own.deque) × (theirs.tally ≡ other hand.own.tally.passes)
     × ((mine : Reached) × (mine.deque ≡ own.deque) × (mine.tally ≡ other own.tally.passes)
-      × (hand' ≡ known hand.worker (owning hand.own.deque (opening hand.own.tally)) (hand.others ++ mine ∷ [])))
+    × (hand' ≡ known hand.worker (owning hand.own.deque (opening hand.own.tally)) (hand.others ++ mine ∷ [])))

@@ -1,4 +1,4 @@
-ghost use Rattle.std.specs.Prelude.{◌≡◌, ◌<◌, ◌≤◌, ◌⊎◌, [], ◌∷◌, IfOk, IfErr, IfSome, IfNone, length};
+ghost use Rattle.std.specs.Prelude.{◌≡◌, ◌<◌, ◌≤◌, ◌⊎◌, ◌↔◌, [], ◌∷◌, IsTrue, IfOk, IfErr, IfSome, IfNone, length};
 ghost use Rattle.dg_steal.specs.Known.{known, room, reached, IsOther, OwnDoes, OtherDoes, Stays, MatchStolen, Meet};
 ghost use Rattle.dg_steal.specs.Rule.{Pushed, Took, WasEmpty};
 
@@ -60,7 +60,14 @@ impl Hand {
         reach.steal()
     }
 
-    // A hand that so far has its own deque alone.
+    /// Whether it is the number of another worker, from whose deque this hand can steal.
+    pub fn is_other(&self, from: u32) -> bool
+        ensures exact { IsTrue result ↔ IsOther self.now from }
+    {
+        from != self.number && from as usize <= self.others.len()
+    }
+
+    // The hand of a worker, with the ways to the deques of the others in the order of their numbers.
     pub(crate) fn new(number: u32, own: Own, others: Vec<Reach>) -> Hand
         requires { number ≤ length others.items }
         ensures exact { result ≡ known number own others.items }

@@ -14,3 +14,6 @@ pub use hand::Hand;
 pub use making::hands;
 pub use memory::NoMemory;
 pub use stolen::Stolen;
+
+#[cfg(test)]
+mod tests;
