@@ -1,12 +1,12 @@
 -- A hand that is made meets those that are there, one after another.
-use Rattle.std.proofs.Common.{◌≡◌, ◌≢◌, ◌⊎◌, inl, inr, ℕ, zero, suc, ◌+◌, ◌-◌, ◌<◌, ◌≤◌, List, [], ◌∷◌, ◌++◌, length, Some, None, slice_get, slice_index_or, slice_set, set, get_or, sym, refl, ap, ◌∙◌, subst, ⊎_elim, arith, cond, ltb, eqb, true, false, take, drop}
+use Rattle.std.proofs.Common.{◌≡◌, ◌≢◌, ◌⊎◌, inl, inr, ℕ, zero, suc, ◌+◌, ◌-◌, ◌<◌, ◌≤◌, List, [], ◌∷◌, ◌++◌, length, Some, slice_get, set, sym, refl, ap, ◌∙◌, subst, ⊎_elim, arith, eqb, true, false, take, drop}
 use Rattle.std.proofs.lemmas.Bool.{cases_lt}
 use Rattle.std.proofs.lemmas.Bool.Decides.{nat_tests, eqb_tells}
 use Rattle.std.proofs.lemmas.List.{length-set, length-append}
 use Rattle.std.proofs.lemmas.Option.{slice_get_within, get_or_from_slice_get, slice_get-get_or}
 use lib.Seq.{take-append_seam}
 use Rattle.dg_steal.specs.declared.tally.Tally.{Tally}
-use Rattle.dg_steal.specs.Rule.{tally, owner, other, opening}
+use Rattle.dg_steal.specs.Rule.{owner, other, opening}
 use Rattle.dg_steal.specs.Known.{Owned, Reached, Known, owning, reaching, known, place, reached, IsNew, AreNew, Meet}
 
 module _ {A : Type 0} where

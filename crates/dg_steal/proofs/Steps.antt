@@ -1,5 +1,5 @@
 -- Each kind of step keeps the rule of a deque.
-use Rattle.std.proofs.Common.{◌≡◌, ◌≢◌, ◌⊎◌, inl, inr, ℕ, zero, suc, ◌+◌, ◌<◌, ◌≤◌, Bool, true, false, true≢false, List, [], ◌∷◌, ◌++◌, length, map, nat_eq, min, set, sym, refl, ap, ◌∙◌, subst, ⊎_elim, append_assoc, arith, cond, eqb}
+use Rattle.std.proofs.Common.{◌≡◌, ◌≢◌, ◌⊎◌, inl, inr, ℕ, zero, suc, ◌+◌, ◌<◌, ◌≤◌, true, false, true≢false, List, [], ◌∷◌, ◌++◌, length, map, nat_eq, min, set, sym, refl, ap, ◌∙◌, subst, ⊎_elim, append_assoc, arith, cond, eqb}
 use Rattle.std.specs.List.{filter}
 use Rattle.std.proofs.lemmas.Bool.{ne_eqb}
 use Rattle.std.proofs.lemmas.Bool.Decides.{nat_tests}
@@ -8,9 +8,9 @@ use Rattle.std.proofs.lemmas.List.Elements.{filter-append}
 use mathlib.Core.Option.{some, some-ne-none, some-injective}
 use lib.ListN.{get_elem?}
 use Rattle.crossbeam_deque.specs.Tasks.{Pushes, Takes, Finds, FindsFew, Forks}
-use Rattle.crossbeam_deque.proofs.Lists.{at_set, at_snoc}
+use Rattle.crossbeam_deque.proofs.Lists.{at_set}
 use Rattle.dg_steal.specs.declared.tally.Tally.{Tally}
-use Rattle.dg_steal.specs.Rule.{tally, owner, other, pushing, taking, opening, Taking, asks_of, taken_by, Fits, Keeps, Steps, Adds, Removes, Pushed, Took, WasEmpty}
+use Rattle.dg_steal.specs.Rule.{owner, other, pushing, taking, opening, Taking, asks_of, taken_by, Fits, Keeps, Steps, Adds, Removes, Pushed, Took, WasEmpty}
 
 -- these asks, as takings of one pass
 abbrev marked : ℕ → List ℕ → List Taking
@@ -20,7 +20,7 @@ asks_of-marked : (pass : ℕ) (asks : List ℕ) → asks_of (marked pass asks) �
 asks_of-marked pass [] = refl
 asks_of-marked pass (x ∷ xs) = ap (λ l. x ∷ l) (asks_of-marked pass xs)
 
-taken_by-cons : (pass : ℕ) (t : Taking) (ts : List Taking) → taken_by pass (t ∷ ts) ≡ cond (eqb t.0 pass) (t.1 ∷ taken_by pass ts) (taken_by pass ts)
+pub taken_by-cons : (pass : ℕ) (t : Taking) (ts : List Taking) → taken_by pass (t ∷ ts) ≡ cond (eqb t.0 pass) (t.1 ∷ taken_by pass ts) (taken_by pass ts)
 taken_by-cons pass t ts = elim (eqb t.0 pass) as (λ b. asks_of (cond b (t ∷ filter (λ u. nat_eq u.0 pass) ts) (filter (λ u. nat_eq u.0 pass) ts)) ≡ cond b (t.1 ∷ taken_by pass ts) (taken_by pass ts)) [ true ↦ refl | false ↦ refl ]
 
 taken_by-marked : (pass : ℕ) (asks : List ℕ) → taken_by pass (marked pass asks) ≡ asks

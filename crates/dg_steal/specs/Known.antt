@@ -1,5 +1,5 @@
 -- What a hand knows of the deques, and what a call of a hand changes of it.
-use Rattle.std.specs.Prelude.{◌≡◌, ◌≢◌, ℕ, ◌+◌, ◌-◌, ◌<◌, ◌≤◌, List, [], ◌∷◌, ◌++◌, length, Some, nat_lt, if◌then◌else◌, slice_get, slice_index_or, slice_set}
+use Rattle.std.specs.Prelude.{◌≡◌, ◌≢◌, ℕ, ◌+◌, ◌-◌, ◌≤◌, List, [], ◌∷◌, ◌++◌, length, Some, nat_lt, if◌then◌else◌, slice_get, slice_index_or, slice_set}
 use Rattle.dg_steal.specs.declared.tally.Tally.{Tally}
 use Rattle.dg_steal.specs.declared.stolen.Stolen.{Stolen}
 use Rattle.dg_steal.specs.declared.stolen.Stolen.TheVariants.{Ask, Empty, Again}

@@ -1,5 +1,5 @@
 -- The rule of a deque: what was pushed to it is what its passes took, in one order, and then what it holds.
-use Rattle.std.specs.Prelude.{◌≡◌, ℕ, ◌+◌, ◌≤◌, Bool, true, false, List, [], ◌∷◌, ◌++◌, length, map, filter, nat_eq, slice_set}
+use Rattle.std.specs.Prelude.{◌≡◌, ℕ, ◌+◌, ◌≤◌, Bool, true, false, List, [], ◌++◌, length, map, filter, nat_eq, count_by, slice_set}
 use mathlib.Core.Option.{some}
 use lib.ListN.{get_elem?}
 use Rattle.dg_steal.specs.declared.tally.Tally.{Tally}
@@ -38,6 +38,10 @@ asks_of takings = map (λ t. t.1) takings
 -- the asks that a pass took
 abbrev pub taken_by : ℕ → List Taking → List ℕ
 taken_by pass takings = asks_of (filter (λ t. nat_eq t.0 pass) takings)
+
+-- how often an ask stands in a list
+abbrev pub times : ℕ → List ℕ → ℕ
+times ask asks = count_by (λ x. nat_eq x ask) asks
 
 -- a pass knows its number and what it took. The owner's is the first, and knows what was pushed and how many passes there are
 abbrev pub Fits : List ℕ → List Taking → ℕ → ℕ → Tally → Type 0

@@ -3,6 +3,7 @@
 #![tactic(auto)]
 
 mod hand;
+mod laws;
 mod making;
 mod memory;
 mod own;
@@ -11,6 +12,7 @@ mod stolen;
 mod tally;
 
 pub use hand::Hand;
+pub use laws::each_ask_once;
 pub use making::hands;
 pub use memory::NoMemory;
 pub use stolen::Stolen;

@@ -1,5 +1,4 @@
 use Rattle.std.proofs.Common.{arith}
-use Rattle.dg_steal.specs.Known.{AreNew}
 use Rattle.dg_steal.proofs.making.hands.Goals as goal
 
 pub loop-worker-preserved : goal.loop-worker-preserved

@@ -1,4 +1,4 @@
-use Rattle.std.proofs.Common.{refl, arith, get_or}
+use Rattle.std.proofs.Common.{arith, get_or}
 use Rattle.std.proofs.lemmas.Option.{slice_get-get_or}
 use Rattle.dg_steal.proofs.Meeting.{goes_on, finishes}
 use Rattle.dg_steal.proofs.making.one_more.Goals as goal
