@@ -1,6 +1,6 @@
 -- The asks that the passes took, counted.
-use Rattle.std.proofs.Common.{◌≡◌, ◌≢◌, ℕ, zero, suc, ◌+◌, ◌<◌, ◌≤◌, true, false, List, [], ◌∷◌, ◌++◌, length, nat_eq, cond, eqb, count_by, sum_by, sym, refl, ap, ◌∙◌, subst, ⊎_elim, arith}
-use Rattle.std.proofs.lemmas.Bool.Decides.{nat_tests, eqb_tells, leb_tells}
+use Rattle.std.proofs.Common.{◌≡◌, ◌≢◌, ℕ, zero, suc, ◌+◌, ◌<◌, ◌≤◌, true, false, List, [], ◌∷◌, ◌++◌, length, nat_eq, cond, eqb, sum_by, sym, refl, ap, ◌∙◌, ⊎_elim, arith}
+use Rattle.std.proofs.lemmas.Bool.Decides.{nat_tests, eqb_tells}
 use Rattle.std.proofs.lemmas.Bool.{cases_lt}
 use Rattle.std.proofs.lemmas.List.Sums.{sum_by-cons, sum_by-append}
 use mathlib.Core.Option.{some}
@@ -41,22 +41,22 @@ among : (ask first n : ℕ) (t : Taking) (ts : List Taking) → first ≤ t.0 �
 among ask first zero t ts from below = absurd (omega arith)
 among ask first (suc n) t ts from below = ⊎_elim
     (λ (h : (eqb t.0 first ≡ true) × (t.0 ≡ first)).
-        let here : cond (eqb t.0 first) (once ask t.1) 0 ≡ once ask t.1 = ap (λ b. cond b (once ask t.1) 0) h.0 in
-        let at = h.1 in
-        omega (arith, by_pass ask first t ts, here, away ask (first + 1) n t ts (omega arith)))
+    let here : cond (eqb t.0 first) (once ask t.1) 0 ≡ once ask t.1 = ap (λ b. cond b (once ask t.1) 0) h.0 in
+    let at = h.1 in
+    omega (arith, by_pass ask first t ts, here, away ask (first + 1) n t ts (omega arith)))
     (λ (h : (eqb t.0 first ≡ false) × (t.0 ≢ first)).
-        let here : cond (eqb t.0 first) (once ask t.1) 0 ≡ 0 = ap (λ b. cond b (once ask t.1) 0) h.0 in
-        let apart = h.1 in
-        omega (arith, by_pass ask first t ts, here, among ask (first + 1) n t ts (omega arith) (omega arith)))
+    let here : cond (eqb t.0 first) (once ask t.1) 0 ≡ 0 = ap (λ b. cond b (once ask t.1) 0) h.0 in
+    let apart = h.1 in
+    omega (arith, by_pass ask first t ts, here, among ask (first + 1) n t ts (omega arith) (omega arith)))
     (eqb_tells t.0 first)
 
 -- no taking by a pass past the last: none of the first taking, and none of the others
 first_within : (n : ℕ) (t : Taking) (ts : List Taking) → ((pass : ℕ) → n ≤ pass → taken_by pass (t ∷ ts) ≡ []) → t.0 < n
 first_within n t ts none = ⊎_elim (λ (h : t.0 < n). h)
     (λ (h : n ≤ t.0).
-        let same : eqb t.0 t.0 ≡ true = grind (arith, nat_tests) in
-        let e : t.1 ∷ taken_by t.0 ts ≡ [] = sym (taken_by-cons t.0 t ts ∙ ap (λ b. cond b (t.1 ∷ taken_by t.0 ts) (taken_by t.0 ts)) same) ∙ none t.0 h in
-        absurd (cc))
+    let same : eqb t.0 t.0 ≡ true = grind (arith, nat_tests) in
+    let e : t.1 ∷ taken_by t.0 ts ≡ [] = sym (taken_by-cons t.0 t ts ∙ ap (λ b. cond b (t.1 ∷ taken_by t.0 ts) (taken_by t.0 ts)) same) ∙ none t.0 h in
+    absurd (cc))
     (cases_lt t.0 n)
 
 rest_within : (n : ℕ) (t : Taking) (ts : List Taking) → ((pass : ℕ) → n ≤ pass → taken_by pass (t ∷ ts) ≡ []) → (pass : ℕ) → n ≤ pass → taken_by pass ts ≡ []
@@ -84,9 +84,9 @@ tallied ask first (t ∷ us) ts knows =
     let theirs = tallied ask (first + 1) us ts (λ k u at. knows (suc k) u at ∙ ap (λ n. taken_by n ts) (let e : first + suc k ≡ (first + 1) + k = omega arith in e)) in
     sum_by-cons (λ (u : Tally). times ask u.taken) t us ∙ omega (arith, mine, theirs)
 
-pub each_once : (items : List ℕ) (tallies : List Tally) (owner : Tally) → Keeps items tallies → get_elem? tallies owner.number ≡ some owner → owner.owns ≡ true
+pub each_once : (items : List ℕ) (tallies : List Tally) (owner : Tally) → Keeps items tallies → get_elem? tallies 0 ≡ some owner
     → (ask : ℕ) → times ask owner.pushed ≡ times ask items + sum_by (λ t. times ask t.taken) tallies
-each_once items tallies owner h at owns ask =
-    let pushed = ((h.3 owner.number owner at).2 owns).1 in
+each_once items tallies owner h at ask =
+    let pushed = ((h.3 0 owner at).2 refl).0 in
     let taken = tallied ask 0 tallies h.1 (λ k t there. (h.3 k t there).1 ∙ ap (λ n. taken_by n h.1) (let e : k ≡ 0 + k = omega arith in e)) in
     ap (times ask) (pushed ∙ h.2) ∙ omega (arith, times-append ask (asks_of h.1) items, all_taken ask (length tallies) h.1 h.4, taken)

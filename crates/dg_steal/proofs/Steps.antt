@@ -1,5 +1,5 @@
 -- Each kind of step keeps the rule of a deque.
-use Rattle.std.proofs.Common.{◌≡◌, ◌≢◌, ◌⊎◌, inl, inr, ℕ, zero, suc, ◌+◌, ◌<◌, ◌≤◌, true, false, true≢false, List, [], ◌∷◌, ◌++◌, length, map, nat_eq, min, set, sym, refl, ap, ◌∙◌, subst, ⊎_elim, append_assoc, arith, cond, eqb}
+use Rattle.std.proofs.Common.{◌≡◌, ◌≢◌, ◌⊎◌, inl, inr, ℕ, zero, suc, ◌+◌, ◌<◌, ◌≤◌, true, false, List, [], ◌∷◌, ◌++◌, length, map, nat_eq, min, set, sym, refl, ap, ◌∙◌, subst, ⊎_elim, append_assoc, arith, cond, eqb}
 use Rattle.std.specs.List.{filter}
 use Rattle.std.proofs.lemmas.Bool.{ne_eqb}
 use Rattle.std.proofs.lemmas.Bool.Decides.{nat_tests}
@@ -62,25 +62,25 @@ snoc_at (x ∷ xs) a b zero e = inl e
 snoc_at (x ∷ xs) a b (suc j) e = ⊎_elim (λ h. inl h) (λ (h : (j ≡ length xs) × (a ≡ b)). inr (ap suc h.0, h.1)) (snoc_at xs a b j e)
 
 pub begins : Keeps [] (owner 1 ∷ [])
-begins =
-    let first : get_elem? (owner 1 ∷ []) 0 ≡ some (owner 1) = refl in (
-      [],
-      [],
-      refl,
-      λ pass t e. ⊎_elim (λ (h : get_elem? [] pass ≡ some t). absurd (some-ne-none t (sym h)))
-          (λ (h : (pass ≡ 0) × (owner 1 ≡ t)). subst (λ (y : ℕ × Tally). Fits [] [] 1 y.0 y.1) (λ i. (sym h.0 i, h.1 i)) (refl, refl, λ _. (refl, refl, refl))) (snoc_at [] (owner 1) t pass e),
-      λ pass past. refl,
-    )
+begins = (
+  [],
+  [],
+  refl,
+  λ pass t e. ⊎_elim (λ (h : get_elem? [] pass ≡ some t). absurd (some-ne-none t (sym h)))
+      (λ (h : (pass ≡ 0) × (owner 1 ≡ t)). subst (λ (y : ℕ × Tally). Fits [] [] 1 y.0 y.1) (λ i. (sym h.0 i, h.1 i)) (refl, refl, (λ _. (refl, refl)), λ _. refl)) (snoc_at [] (owner 1) t pass e),
+  λ pass past. refl,
+)
 
 -- a step at the place of a pass is one at its number
 steps : (pass : ℕ) (t u : Tally) (before after : List ℕ) (tallies : List Tally) → t.number ≡ pass → get_elem? tallies pass ≡ some t → Keeps before tallies → Keeps after (set tallies pass u) → Steps before after t u
 steps pass t u before after tallies e at h kept =
     (tallies, subst (λ n. get_elem? tallies n ≡ some t) (sym e) at, h, subst (λ n. Keeps after (set tallies n u)) (sym e) kept)
 
-pub pushes : (pass : ℕ) (t : Tally) (asks : List ℕ) → t.owns ≡ true → Pushes Keeps pass t asks (Pushed asks t)
+pub pushes : (pass : ℕ) (t : Tally) (asks : List ℕ) → t.number ≡ 0 → Pushes Keeps pass t asks (Pushed asks t)
 unfolding Adds
-pushes pass t asks owns items tallies h at =
+pushes pass t asks first items tallies h at =
     let mine = h.3 pass t at in
+    let zeroth : pass ≡ 0 = sym mine.0 ∙ first in
     let u = pushing asks t in
     let pushed = h.0 ++ asks in
     let long : length (set tallies pass u) ≡ length tallies = length-set tallies pass u in
@@ -90,8 +90,8 @@ pushes pass t asks owns items tallies h at =
       ap (λ l. l ++ asks) h.2 ∙ append_assoc (asks_of h.1) items asks,
       subst (λ n. All (Fits pushed h.1 n) (set tallies pass u)) (sym long)
           (all_set (Fits pushed h.1 (length tallies)) tallies pass u
-          (mine.0, mine.1, λ o. ((mine.2 o).0, ap (λ l. l ++ asks) (mine.2 o).1, (mine.2 o).2))
-          (λ j s apart e. let theirs = h.3 j s e in (theirs.0, theirs.1, λ o. absurd (apart ((theirs.2 o).0 ∙ sym (mine.2 owns).0))))),
+          (mine.0, mine.1, (λ o. (ap (λ l. l ++ asks) (mine.2 o).0, (mine.2 o).1)), λ n. absurd (n zeroth))
+          (λ j s apart e. let theirs = h.3 j s e in (theirs.0, theirs.1, (λ o. absurd (apart (o ∙ sym zeroth))), theirs.3))),
       λ j past. h.4 j (subst (λ n. n ≤ j) long past),
     ) in
     (u, kept, (refl, (items, steps pass t u items (items ++ asks) tallies mine.0 at h kept)))
@@ -112,8 +112,8 @@ takes pass t asks items tallies _ _ h at =
       h.2 ∙ sym (append_assoc (asks_of h.1) asks items) ∙ ap (λ l. l ++ items) (ap (λ l. asks_of h.1 ++ l) (sym (asks_of-marked pass asks)) ∙ sym (map-append (λ (s : Taking). s.1) h.1 (marked pass asks))),
       subst (λ n. All (Fits h.0 takings n) (set tallies pass u)) (sym long)
           (all_set (Fits h.0 takings (length tallies)) tallies pass u
-          (mine.0, ap (λ l. l ++ asks) mine.1 ∙ ap (λ l. taken_by pass h.1 ++ l) (sym (taken_by-marked pass asks)) ∙ sym (taken_by-append pass h.1 (marked pass asks)), mine.2)
-          (λ j s apart e. let theirs = h.3 j s e in (theirs.0, theirs.1 ∙ sym (same j apart), theirs.2))),
+          (mine.0, ap (λ l. l ++ asks) mine.1 ∙ ap (λ l. taken_by pass h.1 ++ l) (sym (taken_by-marked pass asks)) ∙ sym (taken_by-append pass h.1 (marked pass asks)), mine.2, mine.3)
+          (λ j s apart e. let theirs = h.3 j s e in (theirs.0, theirs.1 ∙ sym (same j apart), theirs.2, theirs.3))),
       λ j past. let far : length tallies ≤ j = subst (λ n. n ≤ j) long past in same j (λ e. omega arith) ∙ h.4 j far,
     ) in
     (u, kept, (refl, (items, steps pass t u (asks ++ items) items tallies mine.0 at h kept)))
@@ -127,25 +127,28 @@ finds_few flavor pass t fifo items tallies few h at =
     let none : items ≡ [] = nothing items (subst (λ n. length items ≤ min n 1) fifo few) in
     finds pass t tallies (subst (λ l. Keeps l tallies) none h) at
 
-pub forks : (pass : ℕ) (t : Tally) → t.owns ≡ true → Forks Keeps pass t (opening t) (other t.passes)
-forks pass t owns items tallies h at =
+pub forks : (pass : ℕ) (t : Tally) → t.number ≡ 0 → Forks Keeps pass t (opening t) (other t.passes)
+forks pass t first items tallies h at =
     let mine = h.3 pass t at in
+    let zeroth : pass ≡ 0 = sym mine.0 ∙ first in
+    let inside : pass < length tallies = there tallies pass t at in
     let u = opening t in
     let right = other t.passes in
     let long : length (set tallies pass u) ≡ length tallies = length-set tallies pass u in
     let longer : length (set tallies pass u ++ right ∷ []) ≡ length tallies + 1 = length-append (set tallies pass u) (right ∷ []) ∙ ap (λ n. n + 1) long in
-    let count : t.passes ≡ length tallies = (mine.2 owns).2 in
+    let count : t.passes ≡ length tallies = (mine.2 zeroth).1 in
     let old : All (Fits h.0 h.1 (length tallies + 1)) (set tallies pass u) =
-    all_set (Fits h.0 h.1 (length tallies + 1)) tallies pass u (mine.0, mine.1, λ o. ((mine.2 o).0, (mine.2 o).1, ap (λ n. n + 1) (mine.2 o).2))
-    (λ j s apart e. let theirs = h.3 j s e in (theirs.0, theirs.1, λ o. absurd (apart ((theirs.2 o).0 ∙ sym (mine.2 owns).0)))) in (
+    all_set (Fits h.0 h.1 (length tallies + 1)) tallies pass u (mine.0, mine.1, (λ o. ((mine.2 o).0, ap (λ n. n + 1) (mine.2 o).1)), mine.3)
+    (λ j s apart e. let theirs = h.3 j s e in (theirs.0, theirs.1, (λ o. absurd (apart (o ∙ sym zeroth))), theirs.3)) in (
       h.0,
       h.1,
       h.2,
       λ j s e. subst (λ n. Fits h.0 h.1 n j s) (sym longer)
           (⊎_elim (λ (x : get_elem? (set tallies pass u) j ≡ some s). old j s x)
           (λ (x : (j ≡ length (set tallies pass u)) × (right ≡ s)).
+          let m : j ≡ length tallies = x.0 ∙ long in
           subst (λ (y : Tally). Fits h.0 h.1 (length tallies + 1) j y) x.1
-          (count ∙ sym long ∙ sym x.0, sym (h.4 j (let m : j ≡ length tallies = x.0 ∙ long in omega arith)), λ o. absurd (true≢false (sym o))))
+          (count ∙ sym m, sym (h.4 j (omega arith)), (λ o. absurd (omega arith)), λ _. refl))
           (snoc_at (set tallies pass u) right s j e)),
       λ j past. h.4 j (let far : length tallies + 1 ≤ j = subst (λ n. n ≤ j) longer past in omega arith),
     )

@@ -1,31 +1,31 @@
 -- The rule of a deque: what was pushed to it is what its passes took, in one order, and then what it holds.
-use Rattle.std.specs.Prelude.{◌≡◌, ℕ, ◌+◌, ◌≤◌, Bool, true, false, List, [], ◌++◌, length, map, filter, nat_eq, count_by, slice_set}
+use Rattle.std.specs.Prelude.{◌≡◌, ◌≢◌, ℕ, ◌+◌, ◌≤◌, List, [], ◌++◌, length, map, filter, nat_eq, count_by, slice_set}
 use mathlib.Core.Option.{some}
 use lib.ListN.{get_elem?}
 use Rattle.dg_steal.specs.declared.tally.Tally.{Tally}
 
-abbrev pub tally : ℕ → Bool → ℕ → List ℕ → List ℕ → Tally
-tally number owns passes pushed taken = record { number = number; owns = owns; passes = passes; pushed = pushed; taken = taken }
+abbrev pub tally : ℕ → ℕ → List ℕ → List ℕ → Tally
+tally number passes pushed taken = record { number = number; passes = passes; pushed = pushed; taken = taken }
 
 -- the owner's pass of a deque to which nothing was pushed, where there are so many passes
 abbrev pub owner : ℕ → Tally
-owner passes = tally 0 true passes [] []
+owner passes = tally 0 passes [] []
 
 -- the pass of another worker that took nothing
 abbrev pub other : ℕ → Tally
-other number = tally number false 0 [] []
+other number = tally number 0 [] []
 
 -- the pass after it pushed these asks
 abbrev pub pushing : List ℕ → Tally → Tally
-pushing asks t = tally t.number t.owns t.passes (t.pushed ++ asks) t.taken
+pushing asks t = tally t.number t.passes (t.pushed ++ asks) t.taken
 
 -- the pass after it took these asks
 abbrev pub taking : List ℕ → Tally → Tally
-taking asks t = tally t.number t.owns t.passes t.pushed (t.taken ++ asks)
+taking asks t = tally t.number t.passes t.pushed (t.taken ++ asks)
 
 -- the owner's pass after it made another pass
 abbrev pub opening : Tally → Tally
-opening t = tally t.number t.owns (t.passes + 1) t.pushed t.taken
+opening t = tally t.number (t.passes + 1) t.pushed t.taken
 
 -- an ask that was taken, with the number of the pass that took it
 abbrev pub Taking : Type 0
@@ -43,11 +43,11 @@ taken_by pass takings = asks_of (filter (λ t. nat_eq t.0 pass) takings)
 abbrev pub times : ℕ → List ℕ → ℕ
 times ask asks = count_by (λ x. nat_eq x ask) asks
 
--- a pass knows its number and what it took. The owner's is the first, and knows what was pushed and how many passes there are
+-- a pass knows its number and what it took. The owner's is the first, and knows what was pushed and how many passes there are. The others push nothing
 abbrev pub Fits : List ℕ → List Taking → ℕ → ℕ → Tally → Type 0
 Fits pushed takings passes pass t =
     (t.number ≡ pass) × (t.taken ≡ taken_by pass takings)
-    × (t.owns ≡ true → (pass ≡ 0) × (t.pushed ≡ pushed) × (t.passes ≡ passes))
+    × (pass ≡ 0 → (t.pushed ≡ pushed) × (t.passes ≡ passes)) × (pass ≢ 0 → t.pushed ≡ [])
 
 -- what was pushed is what was taken, in the order of the takings, and then what the deque holds. Each taking is by one of the passes, and each pass knows its own
 abbrev pub Keeps : List ℕ → List Tally → Type 0

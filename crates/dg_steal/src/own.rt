@@ -19,7 +19,7 @@ pub struct Own {
 }
 
 impl Model for Own {
-    ghost use Rattle.std.specs.Prelude.{◌≡◌, ◌≤◌, true, length};
+    ghost use Rattle.std.specs.Prelude.{◌≡◌, ◌≤◌, length};
     ghost use Rattle.crossbeam_deque.specs.Handles.{worker_deque, worker_flavor, worker_view, worker_capacity, worker_index};
     ghost use Rattle.dg_steal.specs.Known.{Owned, owning, room};
 
@@ -27,7 +27,7 @@ impl Model for Own {
 
     ghost view = { λ o. owning (worker_deque o.worker).0 (worker_view o.worker) };
 
-    ghost invariant = { λ o. (worker_flavor o.worker ≡ 0) × ((worker_view o.worker).owns ≡ true) × (worker_index o.worker ≤ length (worker_view o.worker).pushed) × (room ≤ worker_capacity o.worker) };
+    ghost invariant = { λ o. (worker_flavor o.worker ≡ 0) × ((worker_view o.worker).number ≡ 0) × (worker_index o.worker ≤ length (worker_view o.worker).pushed) × (room ≤ worker_capacity o.worker) };
 }
 
 impl Own {

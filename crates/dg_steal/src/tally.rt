@@ -3,11 +3,10 @@
 use crossbeam_deque::protocol::{Outcome, Protocol, Split};
 use std::collections::LinkedList;
 
-// What a pass knows: its number, whether it is the owner's, how many passes there are, what it pushed
-// and what it took. The last two are first to last. No value of it is made.
+// What a pass knows: its number, how many passes there are (where it is the owner's, which has the number 0),
+// and what it pushed and took, first to last. No value of it is made.
 pub struct Tally {
     pub number: u64,
-    pub owns: bool,
     pub passes: u64,
     pub pushed: LinkedList<u32>,
     pub taken: LinkedList<u32>,
@@ -16,7 +15,7 @@ pub struct Tally {
 pub struct EachOnce;
 
 impl Protocol<u32, Tally> for EachOnce {
-    ghost use Rattle.std.specs.Prelude.{true, false, []};
+    ghost use Rattle.std.specs.Prelude.{[]};
     ghost use Rattle.dg_steal.specs.Rule.{Keeps, owner, other};
 
     ghost holds = { Keeps };
