@@ -32,6 +32,7 @@ impl Model for Own {
 
 impl Own {
     // An empty deque.
+    #[tactic(auto, using(crate::proofs::Steps::begins))]
     pub fn new(alloc: Global) -> Result<Own, NoMemory>
         ensures exact { IfOk result (λ o. o.tally ≡ owner 1) }
     {
@@ -41,6 +42,7 @@ impl Own {
     }
 
     // A way for another worker to take from this deque.
+    #[tactic(auto, using(crate::proofs::Steps::forks))]
     pub fn open(&mut self) -> Result<Reach, NoMemory>
         ensures exact { IfOk result (λ r. (r.deque ≡ self.old.deque) × (r.tally ≡ other self.old.tally.passes) × (self.new ≡ owning self.old.deque (opening self.old.tally))) }
     {
@@ -49,6 +51,7 @@ impl Own {
         Ok(Reach { stealer, pass })
     }
 
+    #[tactic(auto, using(crate::proofs::Steps::pushes))]
     pub fn push(&mut self, ask: u32) -> Result<(), u32>
         ensures exact { IfOk result (λ _. (self.new.deque ≡ self.old.deque) × Pushed (ask ∷ []) self.old.tally self.new.tally) }
         ensures kept { IfErr result (λ back. (back ≡ ask) × (self.new ≡ self.old)) }
@@ -57,6 +60,7 @@ impl Own {
         self.worker.push_as::<Push>(ask)
     }
 
+    #[tactic(auto, using(crate::proofs::Steps::takes, crate::proofs::Steps::finds))]
     pub fn pop(&mut self) -> Option<u32>
         ensures exact { IfSome result (λ ask. (self.new.deque ≡ self.old.deque) × Took (ask ∷ []) self.old.tally self.new.tally) }
         ensures kept { IfNone result (self.new ≡ self.old) }

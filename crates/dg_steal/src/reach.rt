@@ -28,6 +28,7 @@ impl Model for Reach {
 }
 
 impl Reach {
+    #[tactic(auto, using(crate::proofs::Steps::takes, crate::proofs::Steps::finds_few))]
     pub fn steal(&mut self) -> Stolen
         ensures deque { self.new.deque ≡ self.old.deque }
         ensures exact { MatchStolen result (λ ask. Took (ask ∷ []) self.old.tally self.new.tally) (self.new.tally ≡ self.old.tally) (self.new.tally ≡ self.old.tally) }

@@ -1,8 +1,0 @@
-use Rattle.dg_steal.proofs.Steps.{takes, finds}
-use Rattle.dg_steal.proofs.own.Own.pop.Goals as goal
-
-pub pop_as-requires-clause-fifo : goal.pop_as-requires-clause-fifo
-pop_as-requires-clause-fifo c = λ _. takes _ _
-
-pub pop_as-requires-clause-empty : goal.pop_as-requires-clause-empty
-pop_as-requires-clause-empty c = finds _ _
