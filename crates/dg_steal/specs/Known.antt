@@ -1,9 +1,10 @@
 -- What a hand knows of the deques, and what a call of a hand changes of it.
-use Rattle.std.specs.Prelude.{◌≡◌, ◌≢◌, ℕ, ◌+◌, ◌-◌, ◌≤◌, List, [], ◌∷◌, ◌++◌, length, Some, nat_lt, if◌then◌else◌, slice_get, slice_index_or, slice_set}
+use Rattle.std.specs.Prelude.{◌≡◌, ◌≢◌, ℕ, ◌+◌, ◌-◌, ◌<◌, ◌≤◌, ◌⊎◌, List, [], ◌∷◌, ◌++◌, length, Some, nat_lt}
+use Rattle.std.specs.Prelude.{if◌then◌else◌, slice_get, slice_index_or, slice_set}
 use Rattle.dg_steal.specs.declared.tally.Tally.{Tally}
 use Rattle.dg_steal.specs.declared.stolen.Stolen.{Stolen}
 use Rattle.dg_steal.specs.declared.stolen.Stolen.TheVariants.{Ask, Empty, Again}
-use Rattle.dg_steal.specs.Rule.{owner, other, opening}
+use Rattle.dg_steal.specs.Rule.{owner, other, opening, WasEmpty}
 
 -- the number of asks that a new deque has room for
 abbrev pub room : ℕ
@@ -17,7 +18,8 @@ pub record Owned : Type 0 where
 abbrev pub owning : ℕ × ℕ → Tally → Owned
 owning deque t = record { deque = deque; tally = t }
 
--- of the deque of another worker: which it is, what the hand's pass knows, and how many asks it knows to be taken from there, by anyone
+-- of the deque of another worker: which it is, what the hand's pass knows, and how many asks it
+-- knows to be taken from there, by anyone
 pub record Reached : Type 0 where
   pub deque : ℕ × ℕ
   pub tally : Tally
@@ -50,12 +52,18 @@ reached from h = slice_index_or h.others (place h.worker from) (reaching (0, 0) 
 -- the hand's pass to its own deque made this step, and the hand knows nothing else
 abbrev pub OwnDoes : (Tally → Tally → Type 0) → Known → Known → Type 0
 OwnDoes step old new =
-    (new ≡ known old.worker (owning old.own.deque new.own.tally) old.others) × step old.own.tally new.own.tally
+    (new ≡ known old.worker (owning old.own.deque new.own.tally) old.others)
+    × step old.own.tally new.own.tally
 
--- the hand's pass to the deque of another worker made this step, and the hand knows nothing else, but for how many asks left that deque
+-- what the hand knew, and this of the deque of another worker
+abbrev pub reaches : ℕ → Reached → Known → Known
+reaches from r h = known h.worker h.own (slice_set h.others (place h.worker from) r)
+
+-- the hand's pass to the deque of another worker made this step, and the hand knows nothing else,
+-- but for how many asks are gone from there
 abbrev pub OtherDoes : ℕ → (Tally → Tally → Type 0) → Known → Known → Type 0
 OtherDoes from step old new =
-    (new ≡ known old.worker old.own (slice_set old.others (place old.worker from) (reached from new)))
+    (new ≡ reaches from (reached from new) old)
     × ((reached from new).deque ≡ (reached from old).deque)
     × step (reached from old).tally (reached from new).tally
 
@@ -63,26 +71,49 @@ OtherDoes from step old new =
 abbrev pub Stays : Tally → Tally → Type 0
 Stays t u = u ≡ t
 
--- a fact for each answer of a steal
-abbrev pub MatchStolen : Stolen → (ℕ → Type 0) → Type 0 → Type 0 → Type 0
-MatchStolen (Ask ask) P Q R = P ask
-MatchStolen Empty P Q R = Q
-MatchStolen Again P Q R = R
+-- a fact of the ask that a steal took
+abbrev pub IfAsk : Stolen → (ℕ → Type 0) → Type 0
+IfAsk (Ask ask) P = P ask
+IfAsk Empty P = Unit {0}
+IfAsk Again P = Unit {0}
 
--- the hand of a worker among new hands: its deque is new, and it has a pass to the deque of each other worker
+-- a fact where a steal took none
+abbrev pub IfNoAsk : Stolen → Type 0 → Type 0
+IfNoAsk (Ask ask) P = Unit {0}
+IfNoAsk Empty P = P
+IfNoAsk Again P = P
+
+-- a steal took no ask since the deque held none at one moment; or, where it is worth another try,
+-- since the hand learnt that more asks are gone
+abbrev pub HasCause : Stolen → Reached → Reached → Type 0
+HasCause (Ask ask) old new = Unit {0}
+HasCause Empty old new = WasEmpty old.tally
+HasCause Again old new = (old.gone < new.gone) ⊎ WasEmpty old.tally
+
+-- a new hand of a worker reaches the deque of another, with a pass that took nothing
+abbrev pub ReachesNew : ℕ → ℕ → Known → Known → Type 0
+ReachesNew worker from h o =
+    ((reached from h).deque ≡ o.own.deque)
+    × ((reached from h).tally ≡ other (place from worker + 1))
+
+-- the hand of a worker among new hands: its deque is new, and it reaches that of each other worker
 abbrev pub IsNew : List Known → ℕ → Known → Type 0
 IsNew hands worker h =
-    (h.worker ≡ worker) × (h.own.tally ≡ owner (length hands)) × (length h.others + 1 ≡ length hands)
+    (h.worker ≡ worker) × (h.own.tally ≡ owner (length hands))
+    × (length h.others + 1 ≡ length hands)
     × ((from : ℕ) (o : Known) → slice_get hands from ≡ Some o → from ≢ worker
-    → ((reached from h).deque ≡ o.own.deque) × ((reached from h).tally ≡ other (place from worker + 1)))
+    → ReachesNew worker from h o)
 
--- they are new hands, in the order of their workers, and one for each
+-- they are new hands, one for each worker, in the order of the workers
 abbrev pub AreNew : List Known → Type 0
-AreNew hands = (worker : ℕ) (h : Known) → slice_get hands worker ≡ Some h → IsNew hands worker h
+AreNew hands =
+    (worker : ℕ) (h : Known) → slice_get hands worker ≡ Some h → IsNew hands worker h
 
--- a hand that is made meets another: each has a pass to the deque of the other then
+-- a hand that is made meets another: each reaches the deque of the other then
 abbrev pub Meet : Known → Owned → Known → Owned → Reached → Type 0
 Meet hand own hand' own' theirs =
-    (own' ≡ owning own.deque (opening own.tally)) × (theirs.deque ≡ hand.own.deque) × (theirs.tally ≡ other hand.own.tally.passes)
+    (own' ≡ owning own.deque (opening own.tally))
+    × (theirs.deque ≡ hand.own.deque) × (theirs.tally ≡ other hand.own.tally.passes)
     × ((mine : Reached) × (mine.deque ≡ own.deque) × (mine.tally ≡ other own.tally.passes)
-    × (hand' ≡ known hand.worker (owning hand.own.deque (opening hand.own.tally)) (hand.others ++ mine ∷ [])))
+    × (hand'
+    ≡ known hand.worker (owning hand.own.deque (opening hand.own.tally)) (hand.others ++ mine ∷ [])))

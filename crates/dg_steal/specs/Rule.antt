@@ -1,11 +1,14 @@
--- The rule of a deque: what was pushed to it is what its passes took, in one order, and then what it holds.
-use Rattle.std.specs.Prelude.{◌≡◌, ◌≢◌, ℕ, ◌+◌, ◌≤◌, List, [], ◌++◌, length, map, filter, nat_eq, count_by, slice_set}
+-- The rule of a deque: what was pushed to it is what its passes took, in one order, and then what
+-- it holds.
+use Rattle.std.specs.Prelude.{◌≡◌, ◌≢◌, ℕ, ◌+◌, ◌≤◌, List, [], ◌++◌, length, map, filter, nat_eq}
+use Rattle.std.specs.Prelude.{count_by, slice_set}
 use mathlib.Core.Option.{some}
 use lib.ListN.{get_elem?}
 use Rattle.dg_steal.specs.declared.tally.Tally.{Tally}
 
 abbrev pub tally : ℕ → ℕ → List ℕ → List ℕ → Tally
-tally number passes pushed taken = record { number = number; passes = passes; pushed = pushed; taken = taken }
+tally number passes pushed taken =
+    record { number = number; passes = passes; pushed = pushed; taken = taken }
 
 -- the owner's pass of a deque to which nothing was pushed, where there are so many passes
 abbrev pub owner : ℕ → Tally
@@ -43,21 +46,26 @@ taken_by pass takings = asks_of (filter (λ t. nat_eq t.0 pass) takings)
 abbrev pub times : ℕ → List ℕ → ℕ
 times ask asks = count_by (λ x. nat_eq x ask) asks
 
--- a pass knows its number and what it took. The owner's is the first, and knows what was pushed and how many passes there are. The others push nothing
+-- a pass knows its number and what it took. The owner's is the first, and knows what was pushed and
+-- how many passes there are. The others push nothing
 abbrev pub Fits : List ℕ → List Taking → ℕ → ℕ → Tally → Type 0
 Fits pushed takings passes pass t =
     (t.number ≡ pass) × (t.taken ≡ taken_by pass takings)
-    × (pass ≡ 0 → (t.pushed ≡ pushed) × (t.passes ≡ passes)) × (pass ≢ 0 → t.pushed ≡ [])
+    × (pass ≡ 0 → (t.pushed ≡ pushed) × (t.passes ≡ passes))
+    × (pass ≢ 0 → t.pushed ≡ [])
 
--- what was pushed is what was taken, in the order of the takings, and then what the deque holds. Each taking is by one of the passes, and each pass knows its own
+-- what was pushed is what was taken, in the order of the takings, and then what the deque holds.
+-- Each taking is by one of the passes, and each pass knows its own
 abbrev pub Keeps : List ℕ → List Tally → Type 0
 Keeps items tallies =
     (pushed : List ℕ) × (takings : List Taking)
     × (pushed ≡ asks_of takings ++ items)
-    × ((pass : ℕ) (t : Tally) → get_elem? tallies pass ≡ some t → Fits pushed takings (length tallies) pass t)
+    × ((pass : ℕ) (t : Tally) → get_elem? tallies pass ≡ some t
+    → Fits pushed takings (length tallies) pass t)
     × ((pass : ℕ) → length tallies ≤ pass → taken_by pass takings ≡ [])
 
--- a step of a pass: the deque held the asks `before` and then the asks `after`, by its rule. The pass that knew t knows u from then on, and no other pass knows more
+-- a step of a pass: the deque held the asks `before` and then the asks `after`, by its rule. The
+-- pass that knew t knows u from then on, and no other pass knows more
 abbrev pub Steps : List ℕ → List ℕ → Tally → Tally → Type 0
 Steps before after t u =
     (tallies : List Tally) × (get_elem? tallies t.number ≡ some t)

@@ -1,5 +1,6 @@
-ghost use Rattle.std.specs.Prelude.{◌≡◌, ◌<◌, ◌≤◌, ◌⊎◌, ◌↔◌, [], ◌∷◌, IsTrue, IfOk, IfErr, IfSome, IfNone, length};
-ghost use Rattle.dg_steal.specs.Known.{known, room, reached, IsOther, OwnDoes, OtherDoes, Stays, MatchStolen, Meet};
+ghost use Rattle.std.specs.Prelude.{◌≡◌, ◌≤◌, ◌↔◌, [], ◌∷◌, IsTrue, IfOk, IfErr, IfSome, IfNone, length};
+ghost use Rattle.dg_steal.specs.Known.{known, room, reached, IsOther, OwnDoes, OtherDoes, Stays};
+ghost use Rattle.dg_steal.specs.Known.{IfAsk, IfNoAsk, HasCause, Meet};
 ghost use Rattle.dg_steal.specs.Rule.{Pushed, Took, WasEmpty};
 
 use crate::memory::NoMemory;
@@ -8,9 +9,10 @@ use crate::reach::Reach;
 use crate::stolen::Stolen;
 use std::marker::Model;
 
-/// The end of the deques that one worker has: it owns the deque of its number, and takes from those of the
-/// other workers. A hand may go to another thread. Contracts see what the hand knows: which worker it is, what
-/// it pushed, what it took from each deque, and how many asks it knows to be gone from those of the others.
+/// What one worker has of the deques: it owns the deque of its number, and takes from those of the
+/// other workers. A hand may go to another thread. Contracts see what the hand knows: which worker
+/// it is, what it pushed, what it took from each deque, and how many asks it knows to be gone from
+/// the deques of the others.
 #[derive(Drop)]
 pub struct Hand {
     number: u32,
@@ -30,8 +32,8 @@ impl Model for Hand {
 }
 
 impl Hand {
-    /// Puts the ask at the back of this worker's deque. `Err` hands it back, where the deque could not grow:
-    /// the worker then runs the ask at once.
+    /// Puts the ask at the back of this worker's deque. `Err` hands it back, where the deque could
+    /// not grow, for want of memory or at its limits: the worker then runs the ask at once.
     pub fn push(&mut self, ask: u32) -> Result<(), u32>
         ensures exact { IfOk result (λ _. OwnDoes (Pushed (ask ∷ [])) self.old self.new) }
         ensures kept { IfErr result (λ back. (back ≡ ask) × (self.new ≡ self.old)) }
@@ -52,8 +54,9 @@ impl Hand {
     /// Takes the first ask of the deque of another worker, by its number.
     pub fn steal(&mut self, from: u32) -> Stolen
         requires { IsOther self.old from }
-        ensures exact { MatchStolen result (λ ask. OtherDoes from (Took (ask ∷ [])) self.old self.new) (OtherDoes from Stays self.old self.new) (OtherDoes from Stays self.old self.new) }
-        ensures cause { MatchStolen result (λ _. Unit {0}) (WasEmpty (reached from self.old).tally) (((reached from self.old).gone < (reached from self.new).gone) ⊎ WasEmpty (reached from self.old).tally) }
+        ensures exact { IfAsk result (λ ask. OtherDoes from (Took (ask ∷ [])) self.old self.new) }
+        ensures kept { IfNoAsk result (OtherDoes from Stays self.old self.new) }
+        ensures cause { HasCause result (reached from self.old) (reached from self.new) }
     {
         let place = if from < self.number { from } else { from - 1 };
         let reach = &mut self.others[place as usize];
@@ -67,7 +70,7 @@ impl Hand {
         from != self.number && from as usize <= self.others.len()
     }
 
-    // The hand of a worker, with the ways to the deques of the others in the order of their numbers.
+    // The hand of a worker, with the ways to the deques of the others in the order of the workers.
     pub(crate) fn new(number: u32, own: Own, others: Vec<Reach>) -> Hand
         requires { number ≤ length others.items }
         ensures exact { result ≡ known number own others.items }
@@ -79,7 +82,7 @@ impl Hand {
         }
     }
 
-    // Gives a worker whose own deque this is a way to this one's deque, and takes one to that deque.
+    // Gives the worker with this deque of its own a way to this hand's, and takes one to that deque.
     pub(crate) fn meet(&mut self, own: &mut Own) -> Result<Reach, NoMemory>
         ensures exact { IfOk result (λ theirs. Meet self.old own.old self.new own.new theirs) }
     {

@@ -6,8 +6,8 @@ use crate::memory::NoMemory;
 use crate::own::Own;
 use std::alloc::Global;
 
-/// Makes a hand for each worker, in the order of their numbers from 0 on, with all the ways between them: no
-/// way is made later. Every deque is empty.
+/// Makes a hand for each worker, in the order of their numbers from 0 on. Every deque is empty. All
+/// the ways between them are made here, before the first push.
 pub fn hands(alloc: Global, workers: u32) -> Result<Vec<Hand>, NoMemory>
     requires { (1 ≤ workers) × (workers ≤ 64) }
     ensures exact { IfOk result (λ hands. (vec_len hands ≡ workers) × AreNew hands.items) }

@@ -20,14 +20,17 @@ pub struct Own {
 
 impl Model for Own {
     ghost use Rattle.std.specs.Prelude.{◌≡◌, ◌≤◌, length};
-    ghost use Rattle.crossbeam_deque.specs.Handles.{worker_deque, worker_flavor, worker_view, worker_capacity, worker_index};
+    ghost use Rattle.crossbeam_deque.specs.Handles.{worker_deque, worker_flavor, worker_view};
+    ghost use Rattle.crossbeam_deque.specs.Handles.{worker_capacity, worker_index};
     ghost use Rattle.dg_steal.specs.Known.{Owned, owning, room};
 
     ghost Value = { Owned };
 
     ghost view = { λ o. owning (worker_deque o.worker).0 (worker_view o.worker) };
 
-    ghost invariant = { λ o. (worker_flavor o.worker ≡ 0) × ((worker_view o.worker).number ≡ 0) × (worker_index o.worker ≤ length (worker_view o.worker).pushed) × (room ≤ worker_capacity o.worker) };
+    ghost invariant = { λ o. (worker_flavor o.worker ≡ 0) × ((worker_view o.worker).number ≡ 0)
+        × (worker_index o.worker ≤ length (worker_view o.worker).pushed)
+        × (room ≤ worker_capacity o.worker) };
 }
 
 impl Own {
@@ -44,7 +47,8 @@ impl Own {
     // A way for another worker to take from this deque.
     #[tactic(auto, using(crate::proofs::Steps::forks))]
     pub fn open(&mut self) -> Result<Reach, NoMemory>
-        ensures exact { IfOk result (λ r. (r.deque ≡ self.old.deque) × (r.tally ≡ other self.old.tally.passes) × (self.new ≡ owning self.old.deque (opening self.old.tally))) }
+        ensures own { IfOk result (λ _. self.new ≡ owning self.old.deque (opening self.old.tally)) }
+        ensures way { IfOk result (λ r. (r.deque ≡ self.old.deque) × (r.tally ≡ other self.old.tally.passes)) }
     {
         let stealer = self.worker.stealer()?;
         let pass = self.worker.another::<Open>();
@@ -53,7 +57,8 @@ impl Own {
 
     #[tactic(auto, using(crate::proofs::Steps::pushes))]
     pub fn push(&mut self, ask: u32) -> Result<(), u32>
-        ensures exact { IfOk result (λ _. (self.new.deque ≡ self.old.deque) × Pushed (ask ∷ []) self.old.tally self.new.tally) }
+        ensures deque { self.new.deque ≡ self.old.deque }
+        ensures exact { IfOk result (λ _. Pushed (ask ∷ []) self.old.tally self.new.tally) }
         ensures kept { IfErr result (λ back. (back ≡ ask) × (self.new ≡ self.old)) }
         ensures cause { IfErr result (λ _. room ≤ length self.old.tally.pushed) }
     {
@@ -62,7 +67,8 @@ impl Own {
 
     #[tactic(auto, using(crate::proofs::Steps::takes, crate::proofs::Steps::finds))]
     pub fn pop(&mut self) -> Option<u32>
-        ensures exact { IfSome result (λ ask. (self.new.deque ≡ self.old.deque) × Took (ask ∷ []) self.old.tally self.new.tally) }
+        ensures deque { self.new.deque ≡ self.old.deque }
+        ensures exact { IfSome result (λ ask. Took (ask ∷ []) self.old.tally self.new.tally) }
         ensures kept { IfNone result (self.new ≡ self.old) }
         ensures cause { IfNone result (WasEmpty self.old.tally) }
     {

@@ -1,7 +1,7 @@
 // The deque of another worker, as this worker takes from it.
-ghost use Rattle.std.specs.Prelude.{◌≡◌, ◌<◌, ◌⊎◌, [], ◌∷◌};
-ghost use Rattle.dg_steal.specs.Known.{MatchStolen};
-ghost use Rattle.dg_steal.specs.Rule.{Took, WasEmpty};
+ghost use Rattle.std.specs.Prelude.{◌≡◌, [], ◌∷◌};
+ghost use Rattle.dg_steal.specs.Known.{IfAsk, IfNoAsk, HasCause};
+ghost use Rattle.dg_steal.specs.Rule.{Took};
 
 use crate::stolen::Stolen;
 use crate::tally::{EachOnce, Take, Tally};
@@ -17,7 +17,8 @@ pub struct Reach {
 
 impl Model for Reach {
     ghost use Rattle.std.specs.Prelude.{◌≡◌};
-    ghost use Rattle.crossbeam_deque.specs.Handles.{stealer_deque, stealer_flavor, view as told, taken, IsPassOf};
+    ghost use Rattle.crossbeam_deque.specs.Handles.{stealer_deque, stealer_flavor, IsPassOf};
+    ghost use Rattle.crossbeam_deque.specs.Handles.{view as told, taken};
     ghost use Rattle.dg_steal.specs.Known.{Reached, reaching};
 
     ghost Value = { Reached };
@@ -31,8 +32,9 @@ impl Reach {
     #[tactic(auto, using(crate::proofs::Steps::takes, crate::proofs::Steps::finds_few))]
     pub fn steal(&mut self) -> Stolen
         ensures deque { self.new.deque ≡ self.old.deque }
-        ensures exact { MatchStolen result (λ ask. Took (ask ∷ []) self.old.tally self.new.tally) (self.new.tally ≡ self.old.tally) (self.new.tally ≡ self.old.tally) }
-        ensures cause { MatchStolen result (λ _. Unit {0}) (WasEmpty self.old.tally) ((self.old.gone < self.new.gone) ⊎ WasEmpty self.old.tally) }
+        ensures exact { IfAsk result (λ ask. Took (ask ∷ []) self.old.tally self.new.tally) }
+        ensures kept { IfNoAsk result (self.new.tally ≡ self.old.tally) }
+        ensures cause { HasCause result self.old self.new }
     {
         match self.stealer.steal_as::<Take>(&mut self.pass) {
             Steal::Success(ask) => Stolen::Ask(ask),

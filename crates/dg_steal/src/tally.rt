@@ -1,10 +1,10 @@
-// What a pass of a deque knows, the rule of a deque, and what each kind of step tells the pass that makes it.
+// What a pass of a deque knows, the rule of a deque, and what each kind of step tells its pass.
 
 use crossbeam_deque::protocol::{Outcome, Protocol, Split};
 use std::collections::LinkedList;
 
-// What a pass knows: its number, how many passes there are (where it is the owner's, which has the number 0),
-// and what it pushed and took, first to last. No value of it is made.
+// What a pass knows: its number, what it took and, where it is the owner's, which has the number 0,
+// what it pushed and how many passes there are. The lists are first to last. No value of it is made.
 pub struct Tally {
     pub number: u64,
     pub passes: u64,
@@ -12,6 +12,7 @@ pub struct Tally {
     pub taken: LinkedList<u32>,
 }
 
+// The rule, which every step keeps.
 pub struct EachOnce;
 
 impl Protocol<u32, Tally> for EachOnce {

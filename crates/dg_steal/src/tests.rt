@@ -95,7 +95,8 @@ fn a_deque_grows_past_its_first_room(rt: HostRuntime) -> Result<(), Fail> {
     Ok(())
 }
 
-// Pushes the asks of this worker, taking some from each deque between, and then takes what is left in its own.
+// Pushes the asks of this worker, taking some from each deque between, and then takes what is left
+// in its own.
 fn work(alloc: Global, mut hand: Hand) -> Result<Vec<u32>, NoMemory> {
     let mut taken = Vec::new(alloc);
     let me = number_of(&hand);
