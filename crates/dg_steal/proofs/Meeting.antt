@@ -80,6 +80,10 @@ starts old own new = record {
   met = λ k h below at. absurd (omega arith);
 }
 
+met_hand : (h h' : Known) (mine : Reached) → h'.worker ≡ h.worker → h'.own ≡ owning h.own.deque (opening h.own.tally) → h'.others ≡ h.others ++ mine ∷ []
+    → h' ≡ known h.worker (owning h.own.deque (opening h.own.tally)) (h.others ++ mine ∷ [])
+met_hand h h' mine worker own others = λ i. known (worker i) (own i) (others i)
+
 pub goes_on : (old : List Known) (deque : ℕ × ℕ) (i : ℕ) (now : List Known) (own : Owned) (others : List Reached) (h h' : Known) (own' : Owned) (theirs : Reached)
     → Meeting old deque i now own others → slice_get now i ≡ Some h → Meet h own h' own' theirs → Meeting old deque (i + 1) (set now i h') own' (others ++ theirs ∷ [])
 goes_on old deque i now own others h h' own' theirs m at meet =
@@ -92,11 +96,11 @@ goes_on old deque i now own others h h' own' theirs m at meet =
       met = λ k g below was. ⊎_elim
           (λ (e : k ≡ i). let same : h ≡ g = some_same h g (sym at ∙ ap (slice_get now) (sym e) ∙ m.rest k (omega arith) ∙ was) in
           record {
-            mine = meet.3.0;
+            mine = meet.5.0;
             theirs = theirs;
-            hand = rw (e, ← same) (get_set_same now i h' inside ∙ ap Some meet.3.3);
-            mine_deque = meet.3.1 ∙ ap (λ (o : Owned). o.deque) m.own_is;
-            mine_tally = meet.3.2 ∙ ap (λ (o : Owned). other o.tally.passes) m.own_is ∙ ap (λ n. other (n + 1)) (sym e);
+            hand = rw (e, ← same) (get_set_same now i h' inside ∙ ap Some (met_hand h h' meet.5.0 meet.3 meet.4 meet.5.3));
+            mine_deque = meet.5.1 ∙ ap (λ (o : Owned). o.deque) m.own_is;
+            mine_tally = meet.5.2 ∙ ap (λ (o : Owned). other o.tally.passes) m.own_is ∙ ap (λ n. other (n + 1)) (sym e);
             way = get_last others theirs k (e ∙ sym m.made);
             theirs_deque = meet.1 ∙ ap (λ (x : Known). x.own.deque) same;
             theirs_tally = meet.2 ∙ ap (λ (x : Known). other x.own.tally.passes) same;

@@ -1,6 +1,6 @@
 -- What a hand knows of the deques, and what a call of a hand changes of it.
-use Rattle.std.specs.Prelude.{◌≡◌, ◌≢◌, ℕ, ◌+◌, ◌-◌, ◌<◌, ◌≤◌, ◌⊎◌, List, [], ◌∷◌, ◌++◌, length, Some, nat_lt}
-use Rattle.std.specs.Prelude.{if◌then◌else◌, slice_get, slice_index_or, slice_set}
+use Rattle.std.specs.Prelude.{◌≡◌, ◌≢◌, ℕ, ◌+◌, ◌-◌, ◌<◌, ◌≤◌, ◌⊎◌, List, [], ◌∷◌, ◌++◌, length}
+use Rattle.std.specs.Prelude.{Some, nat_lt, if◌then◌else◌, slice_get, slice_index_or, slice_set}
 use Rattle.dg_steal.specs.declared.tally.Tally.{Tally}
 use Rattle.dg_steal.specs.declared.stolen.Stolen.{Stolen}
 use Rattle.dg_steal.specs.declared.stolen.Stolen.TheVariants.{Ask, Empty, Again}
@@ -48,6 +48,10 @@ IsOther h from = (from ≢ h.worker) × (from ≤ length h.others)
 -- what the hand knows of the deque of another worker
 abbrev pub reached : ℕ → Known → Reached
 reached from h = slice_index_or h.others (place h.worker from) (reaching (0, 0) (other 0) 0)
+
+-- it is the hand of the same worker, among as many
+abbrev pub IsSameHand : Known → Known → Type 0
+IsSameHand old new = (new.worker ≡ old.worker) × (length new.others ≡ length old.others)
 
 -- the hand's pass to its own deque made this step, and the hand knows nothing else
 abbrev pub OwnDoes : (Tally → Tally → Type 0) → Known → Known → Type 0
@@ -114,6 +118,7 @@ abbrev pub Meet : Known → Owned → Known → Owned → Reached → Type 0
 Meet hand own hand' own' theirs =
     (own' ≡ owning own.deque (opening own.tally))
     × (theirs.deque ≡ hand.own.deque) × (theirs.tally ≡ other hand.own.tally.passes)
+    × (hand'.worker ≡ hand.worker)
+    × (hand'.own ≡ owning hand.own.deque (opening hand.own.tally))
     × ((mine : Reached) × (mine.deque ≡ own.deque) × (mine.tally ≡ other own.tally.passes)
-    × (hand'
-    ≡ known hand.worker (owning hand.own.deque (opening hand.own.tally)) (hand.others ++ mine ∷ [])))
+    × (hand'.others ≡ hand.others ++ mine ∷ []))

@@ -1,6 +1,7 @@
-ghost use Rattle.std.specs.Prelude.{◌≡◌, ◌≤◌, ◌↔◌, [], ◌∷◌, IsTrue, IfOk, IfErr, IfSome, IfNone, length};
+ghost use Rattle.std.specs.Prelude.{◌≡◌, ◌≤◌, ◌↔◌, [], ◌∷◌, length};
+ghost use Rattle.std.specs.Prelude.{IsTrue, IfOk, IfErr, IfSome, IfNone};
 ghost use Rattle.dg_steal.specs.Known.{known, room, reached, IsOther, OwnDoes, OtherDoes, Stays};
-ghost use Rattle.dg_steal.specs.Known.{IfAsk, IfNoAsk, HasCause, Meet};
+ghost use Rattle.dg_steal.specs.Known.{IfAsk, IfNoAsk, HasCause, IsSameHand, Meet};
 ghost use Rattle.dg_steal.specs.Rule.{Pushed, Took, WasEmpty};
 
 use crate::memory::NoMemory;
@@ -35,6 +36,7 @@ impl Hand {
     /// Puts the ask at the back of this worker's deque. `Err` hands it back, where the deque could
     /// not grow, for want of memory or at its limits: the worker then runs the ask at once.
     pub fn push(&mut self, ask: u32) -> Result<(), u32>
+        ensures hand { IsSameHand self.old self.new }
         ensures exact { IfOk result (λ _. OwnDoes (Pushed (ask ∷ [])) self.old self.new) }
         ensures kept { IfErr result (λ back. (back ≡ ask) × (self.new ≡ self.old)) }
         ensures cause { IfErr result (λ _. room ≤ length self.old.own.tally.pushed) }
@@ -44,6 +46,7 @@ impl Hand {
 
     /// Takes the first ask of this worker's deque.
     pub fn pop(&mut self) -> Option<u32>
+        ensures hand { IsSameHand self.old self.new }
         ensures exact { IfSome result (λ ask. OwnDoes (Took (ask ∷ [])) self.old self.new) }
         ensures kept { IfNone result (self.new ≡ self.old) }
         ensures cause { IfNone result (WasEmpty self.old.own.tally) }
@@ -54,6 +57,7 @@ impl Hand {
     /// Takes the first ask of the deque of another worker, by its number.
     pub fn steal(&mut self, from: u32) -> Stolen
         requires { IsOther self.old from }
+        ensures hand { IsSameHand self.old self.new }
         ensures exact { IfAsk result (λ ask. OtherDoes from (Took (ask ∷ [])) self.old self.new) }
         ensures kept { IfNoAsk result (OtherDoes from Stays self.old self.new) }
         ensures cause { HasCause result (reached from self.old) (reached from self.new) }
@@ -82,7 +86,7 @@ impl Hand {
         }
     }
 
-    // Gives the worker with this deque of its own a way to this hand's, and takes one to that deque.
+    // Gives the worker whose own deque this is a way to this hand's, and takes one to that deque.
     pub(crate) fn meet(&mut self, own: &mut Own) -> Result<Reach, NoMemory>
         ensures exact { IfOk result (λ theirs. Meet self.old own.old self.new own.new theirs) }
     {

@@ -48,7 +48,8 @@ impl Own {
     #[tactic(auto, using(crate::proofs::Steps::forks))]
     pub fn open(&mut self) -> Result<Reach, NoMemory>
         ensures own { IfOk result (λ _. self.new ≡ owning self.old.deque (opening self.old.tally)) }
-        ensures way { IfOk result (λ r. (r.deque ≡ self.old.deque) × (r.tally ≡ other self.old.tally.passes)) }
+        ensures deque { IfOk result (λ way. way.deque ≡ self.old.deque) }
+        ensures tally { IfOk result (λ way. way.tally ≡ other self.old.tally.passes) }
     {
         let stealer = self.worker.stealer()?;
         let pass = self.worker.another::<Open>();

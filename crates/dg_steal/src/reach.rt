@@ -25,7 +25,8 @@ impl Model for Reach {
 
     ghost view = { λ r. reaching (stealer_deque r.stealer).0 (told r.pass) (taken r.pass) };
 
-    ghost invariant = { λ r. (stealer_flavor r.stealer ≡ 0) × IsPassOf (stealer_deque r.stealer) r.pass };
+    ghost invariant = { λ r. (stealer_flavor r.stealer ≡ 0)
+        × IsPassOf (stealer_deque r.stealer) r.pass };
 }
 
 impl Reach {

@@ -3,8 +3,9 @@
 use crossbeam_deque::protocol::{Outcome, Protocol, Split};
 use std::collections::LinkedList;
 
-// What a pass knows: its number, what it took and, where it is the owner's, which has the number 0,
-// what it pushed and how many passes there are. The lists are first to last. No value of it is made.
+// What a pass knows: its number, what it took and, where it is the owner's, which has the number
+// 0, what it pushed and how many passes there are. The lists are first to last. No value of it is
+// made.
 pub struct Tally {
     pub number: u64,
     pub passes: u64,
