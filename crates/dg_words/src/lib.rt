@@ -1,13 +1,14 @@
-// A library with one function.
+//! The words of the programs' command lines.
 #![tactic(auto)]
 
-ghost use Rattle.std.specs.Prelude.{◌≡◌};
-ghost use Rattle.dg_words.specs.Echo.{echo_of};
+mod check;
+mod choice;
+mod fault;
+mod run;
 
-// The `ensures` clause is the contract: what `echo` returns is `echo_of` of its argument, a definition
-// in `specs/Echo.antt`, which a caller's clause can cite too.
-pub fn echo(x: usize) -> usize
-    ensures { result ≡ echo_of x }
-{
-    x
-}
+pub use check::{CheckWords, check_words};
+pub use fault::{NoMemory, WordFault};
+pub use run::{RunWords, run_words};
+
+#[cfg(test)]
+mod tests;

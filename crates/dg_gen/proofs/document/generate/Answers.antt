@@ -1,4 +1,3 @@
-use Rattle.std.proofs.Common.{◌∙◌}
 use Rattle.dg_gen.proofs.TextLemmas.{more, whole}
 use Rattle.dg_gen.proofs.document.generate.Goals as goal
 

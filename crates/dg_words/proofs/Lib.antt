@@ -1,0 +1,4 @@
+pub mod ChoiceLemmas
+pub mod NumberLemmas
+pub mod ResultLemmas
+pub mod RunLemmas
