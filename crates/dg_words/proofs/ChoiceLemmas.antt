@@ -7,9 +7,7 @@ use Rattle.std.proofs.lemmas.Bool.{false≢true}
 use Rattle.std.proofs.lemmas.List.Folds.{list_all_at}
 use Rattle.std.proofs.lemmas.Str.Pattern.{IsSplitOnceResult, split_after, split_parts}
 use Rattle.std.proofs.Math.Seq.{get_or-append_seam}
-use Rattle.dg_words.specs.declared.choice.Choice.{Choice}
-use Rattle.dg_words.specs.declared.choice.Choice.TheVariants.{Workers, Generate}
-use Rattle.dg_words.specs.Words.{Bytes, IsOption, Spells, BeginsWith}
+use Rattle.dg_words.specs.Words.{Bytes, Choice, Workers, Generate, IsOption, Spells, BeginsWith}
 
 -- ---- names have no `=`
 

@@ -1,14 +1,14 @@
 -- Which options words are, option by option.
-use Rattle.std.proofs.Common.{◌≡◌, ◌≢◌, ℕ, ◌<◌, ◌≤◌, ◌+◌, ◌^◌, List, [], ◌∷◌, ◌++◌, length, get_or, Option, Some, None, inl, inr, refl, sym, ap, ap₂, subst, ◌∙◌, arith, length-append, append_assoc, append-nil, add-one, lit<}
+use Rattle.std.proofs.Common.{◌≡◌, ◌≢◌, ℕ, ◌<◌, ◌≤◌, ◌+◌, ◌^◌, List, Bool, [], ◌∷◌, ◌++◌, length, get_or, Option, Some, None, inl, inr, refl, sym, ap, ap₂, subst, ◌∙◌, arith, length-append, append_assoc, append-nil, add-one, lit<}
 use Rattle.std.specs.Prelude.{codes, decimal, unwrap_or, is_some, true, false}
 use Rattle.std.proofs.lemmas.Bool.{false≢true}
 use Rattle.std.specs.List.{filter_map}
 use Rattle.std.proofs.lemmas.List.Elements.{filter_map-append}
 use Rattle.std.proofs.lemmas.Fmt.{decimal_injective}
-use Rattle.dg_words.specs.declared.choice.Choice.{Choice}
-use Rattle.dg_words.specs.declared.choice.Choice.TheVariants.{Workers, Generate}
+use Rattle.dg_words.specs.declared.flag.Flag.{Flag}
+use Rattle.dg_words.specs.declared.flag.Flag.TheVariants as flag
 use Rattle.dg_words.specs.declared.run.RunWords.{RunWords}
-use Rattle.dg_words.specs.Words.{Bytes, IsNumber, IsOption, BeginsWith, AreSpelled, nothing, first, workers_in, generate_in, IsOnly, IsRun, default_workers}
+use Rattle.dg_words.specs.Words.{Bytes, Choice, Workers, Generate, flag_of, IsNumber, IsOption, BeginsWith, AreSpelled, nothing, first, workers_in, generate_in, IsOnly, IsRun, default_workers}
 use Rattle.dg_words.proofs.ChoiceLemmas.{HasNone, none_in_name, one_in, none_at_end}
 
 -- ---- words begin with one option at most
@@ -104,7 +104,7 @@ same_choices one other words (first {choice} {more} {rest} begins later) spelled
     let tail = same_choices more head.0 rest later head.2 in
     ap (λ (cs : List Choice). choice ∷ cs) tail ∙ sym head.1
 
-same_only : (values : List ℕ) (one other : Option ℕ) → IsOnly values one → IsOnly values other → one ≡ other
+pub same_only : (values : List ℕ) (one other : Option ℕ) → IsOnly values one → IsOnly values other → one ≡ other
 same_only values None None p q = refl
 same_only values None (Some m) p q = let bad : [] ≡ m ∷ [] = sym p ∙ q in cc
 same_only values (Some n) None p q = let bad : [] ≡ n ∷ [] = sym q ∙ p in cc
@@ -192,7 +192,7 @@ no_option words left workers generate reading some refused run is =
     at_first more left nothing some refused = absurd (omega arith)
     at_first more left (first {choice} {rest} begins later) some refused = refused choice rest begins
 
-only_short : (values : List ℕ) (one : Option ℕ) → IsOnly values one → length values ≤ 1
+pub only_short : (values : List ℕ) (one : Option ℕ) → IsOnly values one → length values ≤ 1
 only_short values None is = rw is (omega arith)
 only_short values (Some n) is = rw is (omega arith)
 
@@ -222,3 +222,62 @@ second_generate words left rest workers (Some m) n some reading begins run is =
     let head = spelled_first before.0 left (Generate n) rest before.2 begins in
     let all = before.1 ∙ ap (λ (cs : List Choice). reading.done ++ cs) head.1 in
     two_values generate_in reading.done head.0 (Generate n) n m run.generate reading.one_generate refl (rw all at is.one_generate)
+
+-- ---- the same, of a loop that notes which options it saw
+
+pub record Seen (words left : List Bytes) (workers generate : Bool) : Type 0 where
+  pub workers_value : Option ℕ
+  pub generate_value : Option ℕ
+  pub reading : Reading words left workers_value generate_value
+  pub has_workers : is_some workers_value ≡ workers
+  pub has_generate : is_some generate_value ≡ generate
+
+pub seen_begins : (words : List Bytes) → Seen words words false false
+seen_begins words = record { workers_value = None; generate_value = None; reading = reading_begins words; has_workers = refl; has_generate = refl }
+
+-- an option begins the words that are left
+abbrev pub Begins : List Bytes → Flag → List Bytes → Type 0
+Begins left flag rest = (choice : Choice) × (flag_of choice ≡ flag) × BeginsWith left choice rest
+
+pub workers_seen : (words left rest : List Bytes) (generate : Bool) → Seen words left false generate → Begins left flag.Workers rest → Seen words rest true generate
+workers_seen words left rest generate seen (Workers n, is, begins) = record {
+  workers_value = Some n;
+  generate_value = seen.generate_value;
+  reading = with_workers words left rest seen.workers_value seen.generate_value n seen.has_workers seen.reading begins;
+  has_workers = refl;
+  has_generate = seen.has_generate;
+}
+workers_seen words left rest generate seen (Generate n, is, begins) = let bad : flag.Generate ≡ flag.Workers = is in cc
+
+pub generate_seen : (words left rest : List Bytes) (workers : Bool) → Seen words left workers false → Begins left flag.Generate rest → Seen words rest workers true
+generate_seen words left rest workers seen (Generate n, is, begins) = record {
+  workers_value = seen.workers_value;
+  generate_value = Some n;
+  reading = with_generate words left rest seen.workers_value seen.generate_value n seen.has_generate seen.reading begins;
+  has_workers = seen.has_workers;
+  has_generate = refl;
+}
+generate_seen words left rest workers seen (Workers n, is, begins) = let bad : flag.Workers ≡ flag.Generate = is in cc
+
+pub workers_again : (words left rest : List Bytes) (generate : Bool) → Seen words left true generate → Begins left flag.Workers rest → (run : RunWords) × IsRun words run → ⊥
+workers_again words left rest generate seen (Workers n, is, begins) run =
+    second_workers words left rest seen.workers_value seen.generate_value n seen.has_workers seen.reading begins run.0 run.1
+workers_again words left rest generate seen (Generate n, is, begins) run = let bad : flag.Generate ≡ flag.Workers = is in cc
+
+pub generate_again : (words left rest : List Bytes) (workers : Bool) → Seen words left workers true → Begins left flag.Generate rest → (run : RunWords) × IsRun words run → ⊥
+generate_again words left rest workers seen (Generate n, is, begins) run =
+    second_generate words left rest seen.workers_value seen.generate_value n seen.has_generate seen.reading begins run.0 run.1
+generate_again words left rest workers seen (Workers n, is, begins) run = let bad : flag.Workers ≡ flag.Generate = is in cc
+
+pub none_seen : (words left : List Bytes) (workers generate : Bool) → Seen words left workers generate → 0 < length left
+    → ((choice : Choice) (rest : List Bytes) → BeginsWith left choice rest → ⊥) → (run : RunWords) × IsRun words run → ⊥
+none_seen words left workers generate seen some refused run =
+    no_option words left seen.workers_value seen.generate_value seen.reading some refused run.0 run.1
+
+pub all_seen : (words left : List Bytes) (workers generate : Bool) → Seen words left workers generate → left ≡ [] → (run : RunWords) × IsRun words run
+all_seen words left workers generate seen at =
+    let run : RunWords = record { workers = unwrap_or seen.workers_value default_workers; generate = seen.generate_value } in
+    (run, run_read words left seen.workers_value seen.generate_value run at seen.reading refl refl)
+
+pub fewer_left : (left : List Bytes) (flag : Flag) (rest : List Bytes) → Begins left flag rest → length rest < length left
+fewer_left left flag rest begins = fewer left begins.0 rest begins.2

@@ -1,8 +1,8 @@
 -- The forms of words that the programs read. A word is a list of bytes; the program's name isn't one of them.
 use Rattle.std.specs.Prelude.{◌≡◌, ℕ, ◌≤◌, ◌⊎◌, List, [], ◌∷◌, ◌++◌, Contains, Option, Some, None, unwrap_or, codes, decimal}
 use Rattle.std.specs.List.{filter_map}
-use Rattle.dg_words.specs.declared.choice.Choice.{Choice}
-use Rattle.dg_words.specs.declared.choice.Choice.TheVariants.{Workers, Generate}
+use Rattle.dg_words.specs.declared.flag.Flag.{Flag}
+use Rattle.dg_words.specs.declared.flag.Flag.TheVariants as flag
 use Rattle.dg_words.specs.declared.run.RunWords.{RunWords}
 use Rattle.dg_words.specs.declared.check.CheckWords.{CheckWords}
 use Rattle.dg_words.specs.declared.check.CheckWords.TheVariants.{Check, Plan, Print}
@@ -31,6 +31,16 @@ pub record IsNumber (limit : ℕ) (word : Bytes) (n : ℕ) : Type 0 where
   pub within : n ≤ limit
 
 -- ---- the words of a run
+
+-- an option with its value
+pub data Choice : Type 0 where
+  Workers : ℕ → Choice
+  Generate : ℕ → Choice
+
+-- which option it is
+abbrev pub flag_of : Choice → Flag
+flag_of (Workers n) = flag.Workers
+flag_of (Generate n) = flag.Generate
 
 -- each option with its name and the values that it takes
 abbrev pub IsOption : Choice → Bytes → Bytes → Type 0

@@ -1,3 +1,5 @@
+ghost use Rattle.std.specs.Prelude.{◌≡◌};
+
 use std::alloc::{AllocError, AllocFailed};
 
 /// There was no memory for what a call makes.
@@ -23,4 +25,14 @@ pub enum WordFault {
     BadWords,
     /// There was no memory to read them.
     NoMemory,
+}
+
+impl From<NoMemory> for WordFault {
+    ghost use Rattle.dg_words.specs.declared.fault.WordFault.TheVariants as variant;
+
+    ghost from_gives = { λ _ fault. fault ≡ variant.NoMemory };
+
+    fn from(_: NoMemory) -> WordFault {
+        WordFault::NoMemory
+    }
 }

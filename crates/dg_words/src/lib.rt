@@ -2,9 +2,10 @@
 #![tactic(auto)]
 
 mod check;
-mod choice;
 mod fault;
+mod flag;
 mod run;
+mod values;
 
 pub use check::{CheckWords, check_words};
 pub use fault::{NoMemory, WordFault};

@@ -1,12 +1,10 @@
-ghost use Rattle.std.specs.Prelude.{◌≡◌, ◌↔◌, ℕ, Err, map, string_bytes, IfOk, MatchOption};
+ghost use Rattle.std.specs.Prelude.{◌≡◌, ◌↔◌, ℕ, Err, map, string_bytes, IfOk, IsTrue};
 ghost use Rattle.dg_words.specs.Words as spec;
 
-use crate::choice::{Choice, first_choice};
+use crate::flag::{Flag, first_flag};
+use crate::values::run_of;
 use crate::fault::WordFault;
 use std::alloc::Global;
-
-/// How many workers there are where no word says so.
-const DEFAULT_WORKERS: u32 = 4;
 
 /// What the words of a run say.
 #[derive(Clone, Copy, Debug, PartialEq, Eq)]
@@ -17,35 +15,37 @@ pub struct RunWords {
     pub generate: Option<u32>,
 }
 
-fn read_run(words: &[String]) -> Option<RunWords>
-    ensures exact { MatchOption result ((run : RunWords) → ¬ spec.IsRun (map string_bytes words.now) run)
-        (spec.IsRun (map string_bytes words.now)) }
+/// Whether the words are those of a run.
+fn is_run(words: &[String]) -> bool
+    ensures exact { IsTrue result ↔ ((run : RunWords) × spec.IsRun (map string_bytes words.now) run) }
 {
-    let (mut workers, mut generate) = (None, None);
+    let (mut workers, mut generate) = (false, false);
     let mut left = words;
     while !left.is_empty() {
-        let (choice, rest) = first_choice(left)?;
-        match choice {
-            Choice::Workers(n) if workers.is_none() => workers = Some(n),
-            Choice::Generate(n) if generate.is_none() => generate = Some(n),
-            _ => return None,
+        let Some((flag, rest)) = first_flag(left) else {
+            return false;
+        };
+        match flag {
+            Flag::Workers if !workers => workers = true,
+            Flag::Generate if !generate => generate = true,
+            _ => return false,
         }
         left = rest;
     }
-    Some(RunWords {
-        workers: workers.unwrap_or(DEFAULT_WORKERS),
-        generate,
-    })
+    true
 }
 
 /// Reads the words of a run, the program's name not among them: `--workers N` and `--generate N`, also with `=` in
 /// place of the space, each at most once and in any order. No word at all means 4 workers and no generated document.
-pub fn run_words(_alloc: Global, words: &[String]) -> Result<RunWords, WordFault>
+pub fn run_words(alloc: Global, words: &[String]) -> Result<RunWords, WordFault>
     ensures exact { IfOk result (spec.IsRun (map string_bytes words.now)) }
     ensures cause { (result ≡ Err WordFault.BadWords)
         ↔ ((run : RunWords) → ¬ spec.IsRun (map string_bytes words.now) run) }
 {
-    read_run(words).ok_or(WordFault::BadWords)
+    if !is_run(words) {
+        return Err(WordFault::BadWords);
+    }
+    Ok(run_of(alloc, words)?)
 }
 
 /// A law: words say one thing.
