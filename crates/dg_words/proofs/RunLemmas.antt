@@ -55,27 +55,27 @@ same_beginning words one other rest after p q =
     let from = λ (f : List Bytes). λ (e : p.front ≡ f). λ (g : List Bytes). λ (h : q.front ≡ g). ap (λ (z : List Bytes). z ++ rest) (sym e) ∙ all ∙ ap (λ (z : List Bytes). z ++ after) h in
     elim p.spelled.3 [
       | inl two ↦ elim q.spelled.3 [
-          | inl two' ↦
-              (let lists : name ∷ value ∷ rest ≡ name' ∷ value' ∷ after = from _ two _ two' in
-              let same_name : name ≡ name' = cc in
-              let same_value : value ≡ value' = cc in
-              (same_option one other name value option (rw (same_name, same_value) option'), cc))
-          | inr one' ↦
-              (let lists : name ∷ value ∷ rest ≡ (name' ++ 61 ∷ value') ∷ after = from _ two _ one' in
-              let same_name : name ≡ name' ++ 61 ∷ value' = cc in
-              absurd (one_in name name' value' same_name plain))
-        ]
+        | inl two' ↦
+            (let lists : name ∷ value ∷ rest ≡ name' ∷ value' ∷ after = from _ two _ two' in
+            let same_name : name ≡ name' = cc in
+            let same_value : value ≡ value' = cc in
+            (same_option one other name value option (rw (same_name, same_value) option'), cc))
+        | inr one' ↦
+            (let lists : name ∷ value ∷ rest ≡ (name' ++ 61 ∷ value') ∷ after = from _ two _ one' in
+            let same_name : name ≡ name' ++ 61 ∷ value' = cc in
+            absurd (one_in name name' value' same_name plain))
+      ]
       | inr one_word ↦ elim q.spelled.3 [
-          | inl two' ↦
-              (let lists : (name ++ 61 ∷ value) ∷ rest ≡ name' ∷ value' ∷ after = from _ one_word _ two' in
-              let same_name : name' ≡ name ++ 61 ∷ value = cc in
-              absurd (one_in name' name value same_name plain'))
-          | inr one' ↦
-              (let lists : (name ++ 61 ∷ value) ∷ rest ≡ (name' ++ 61 ∷ value') ∷ after = from _ one_word _ one' in
-              let same_word : name ++ 61 ∷ value ≡ name' ++ 61 ∷ value' = cc in
-              let parts = same_parts name value name' value' plain plain' same_word in
-              (same_option one other name value option (rw (parts.0, parts.1) option'), cc))
-        ]
+        | inl two' ↦
+            (let lists : (name ++ 61 ∷ value) ∷ rest ≡ name' ∷ value' ∷ after = from _ one_word _ two' in
+            let same_name : name' ≡ name ++ 61 ∷ value = cc in
+            absurd (one_in name' name value same_name plain'))
+        | inr one' ↦
+            (let lists : (name ++ 61 ∷ value) ∷ rest ≡ (name' ++ 61 ∷ value') ∷ after = from _ one_word _ one' in
+            let same_word : name ++ 61 ∷ value ≡ name' ++ 61 ∷ value' = cc in
+            let parts = same_parts name value name' value' plain plain' same_word in
+            (same_option one other name value option (rw (parts.0, parts.1) option'), cc))
+      ]
     ]
 
 -- an option has words

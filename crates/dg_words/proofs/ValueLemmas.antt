@@ -196,10 +196,13 @@ finds_one_generate n words spelled =
 two_fronts : (choice other : Choice) (words : List Bytes) → AreSpelled (choice ∷ other ∷ []) words → (a : List Bytes) × (b : List Bytes) × (words ≡ a ++ b) × Spells choice a × Spells other b
 two_fronts choice other words spelled =
     let one = some_words choice (other ∷ []) words spelled in
-    let two = some_words other [] one.0 one.2 in
-    (one.1.front, two.1.front,
-    one.1.whole ∙ ap (λ (r : List Bytes). one.1.front ++ r) (two.1.whole ∙ ap (λ (r : List Bytes). two.1.front ++ r) (no_words two.0 two.2) ∙ append-nil two.1.front),
-    one.1.spelled, two.1.spelled)
+    let two = some_words other [] one.0 one.2 in (
+      one.1.front,
+      two.1.front,
+      one.1.whole ∙ ap (λ (r : List Bytes). one.1.front ++ r) (two.1.whole ∙ ap (λ (r : List Bytes). two.1.front ++ r) (no_words two.0 two.2) ∙ append-nil two.1.front),
+      one.1.spelled,
+      two.1.spelled,
+    )
 
 finds_both : (n m : ℕ) (words : List Bytes) → AreSpelled (Workers n ∷ Generate m ∷ []) words → Finds words (Some n) (Some m)
 finds_both n m words spelled =

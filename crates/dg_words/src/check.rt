@@ -1,4 +1,4 @@
-ghost use Rattle.std.specs.Prelude.{◌≡◌, ◌↔◌, Err, map, string_bytes, IfOk, MatchOption};
+ghost use Rattle.std.specs.Prelude.{◌≡◌, ◌≢◌, ◌↔◌, Err, map, string_bytes, IfOk, MatchOption};
 ghost use Rattle.dg_words.specs.Words as spec;
 
 use crate::fault::WordFault;
@@ -35,6 +35,14 @@ pub fn check_words(_alloc: Global, words: &[String]) -> Result<CheckWords, WordF
     ensures exact { IfOk result (spec.IsCheck (map string_bytes words.now)) }
     ensures cause { (result ≡ Err WordFault.BadWords)
         ↔ ((check : CheckWords) → ¬ spec.IsCheck (map string_bytes words.now) check) }
+    ensures never_lacks { result ≢ Err WordFault.NoMemory }
 {
     read_check(words).ok_or(WordFault::BadWords)
 }
+
+/// A law: the words of a check ask for one thing.
+pub fn one_check_of_words(words: &[String], one: CheckWords, other: CheckWords)
+    requires first { spec.IsCheck (map string_bytes words.now) one }
+    requires second { spec.IsCheck (map string_bytes words.now) other }
+    ensures same { one ≡ other }
+{}

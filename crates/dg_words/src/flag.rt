@@ -59,7 +59,7 @@ pub(crate) fn first_flag(words: &[String]) -> Option<(Flag, &[String])>
     ensures exact { MatchOption result
         ((choice : spec.Choice) (rest : List (List ℕ)) → ¬ spec.BeginsWith (map string_bytes words.entry.now) choice rest)
         (λ first. (choice : spec.Choice) × (spec.flag_of choice ≡ first.0)
-            × spec.BeginsWith (map string_bytes words.entry.now) choice (map string_bytes first.1.now)) }
+        × spec.BeginsWith (map string_bytes words.entry.now) choice (map string_bytes first.1.now)) }
 {
     let (word, rest) = next_word(words)?;
     match word.split_once('=') {

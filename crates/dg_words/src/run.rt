@@ -1,9 +1,9 @@
 ghost use Rattle.std.specs.Prelude.{◌≡◌, ◌↔◌, ℕ, Err, map, string_bytes, IfOk, IsTrue};
 ghost use Rattle.dg_words.specs.Words as spec;
 
+use crate::fault::WordFault;
 use crate::flag::{Flag, first_flag};
 use crate::values::run_of;
-use crate::fault::WordFault;
 use std::alloc::Global;
 
 /// What the words of a run say.
@@ -53,5 +53,4 @@ pub fn one_run_of_words(words: &[String], one: RunWords, other: RunWords)
     requires first { spec.IsRun (map string_bytes words.now) one }
     requires second { spec.IsRun (map string_bytes words.now) other }
     ensures same { one ≡ other }
-{
-}
+{}
