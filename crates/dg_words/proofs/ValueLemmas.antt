@@ -1,11 +1,10 @@
 -- What the command of a run finds in words that are in a form of the table.
-use Rattle.std.proofs.Common.{◌≡◌, ℕ, ◌<◌, ◌≤◌, ◌^◌, ◌-◌, List, Bool, [], ◌∷◌, ◌++◌, length, get_or, slice_get, map, Option, Some, None, Result, Ok, Err, inl, inr, refl, ap, ◌∙◌, append-nil, arith}
+use Rattle.std.proofs.Common.{◌≡◌, ℕ, ◌<◌, ◌≤◌, ◌^◌, List, [], ◌∷◌, ◌++◌, length, get_or, slice_get, Option, Some, None, Result, Ok, Err, inl, inr, refl, ap, ◌∙◌, append-nil, arith}
 use Rattle.std.specs.Prelude.{◌==◌, ◌⊎◌, codes, decimal, unwrap_or, option_map, option_and_then, find, true, false}
 use Rattle.std.specs.List.{filter_map}
 use Rattle.std.specs.Borrow.{Bor}
 use Rattle.std.specs.Str.{bytes_eq}
 use Rattle.std.specs.Str.Parse.{ParsesUnsigned}
-use Rattle.std.proofs.lemmas.Bool.{false≢true}
 use Rattle.std.proofs.lemmas.Bool.Decides.{eqb_tells}
 use Rattle.std.proofs.lemmas.Fmt.{first_decimal, parse-decimal}
 use Rattle.clap.specs.Words.{Row, Text, HasMatchesOf, ReadsOne, found_of, is_simple, matches_of, one_of, one_text, read_as, rows_of, takes}
@@ -20,7 +19,7 @@ use Rattle.clap.proofs.WalkLemmas.{find-map}
 use Rattle.dg_words.proofs.RunLemmas.{same_only, only_short}
 use Rattle.dg_words.specs.declared.run.RunWords.{RunWords}
 use Rattle.dg_words.specs.Reader.{run_command}
-use Rattle.dg_words.specs.Words.{Bytes, Choice, Workers, Generate, IsNumber, IsOption, Spells, BeginsWith, AreSpelled, nothing, first, workers_in, generate_in, IsOnly, IsRun, default_workers}
+use Rattle.dg_words.specs.Words.{Bytes, Choice, Workers, Generate, IsNumber, Spells, BeginsWith, AreSpelled, nothing, first, workers_in, generate_in, IsOnly, IsRun, default_workers}
 
 -- ---- the text that a getter reads, from the rows
 

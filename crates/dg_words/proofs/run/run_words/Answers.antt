@@ -1,6 +1,5 @@
 use Rattle.std.proofs.Common.{◌≡◌, true, rules}
 use Rattle.std.proofs.lemmas.Result.{err_from_is_err_and}
-use Rattle.dg_words.specs.declared.fault.WordFault.{WordFault}
 use Rattle.dg_words.specs.declared.fault.WordFault.TheVariants.{BadWords, NoMemory}
 use Rattle.dg_words.proofs.ResultLemmas.{not_refused}
 use Rattle.dg_words.proofs.run.run_words.Goals as goal
