@@ -35,7 +35,8 @@ fn push_line(out: &mut Vec<u8>, text: &[u8]) -> Result<(), NoMemory>
 
 /// Adds a line in which a number stands between two texts.
 fn push_numbered(out: &mut Vec<u8>, head: &[u8], n: u32, tail: &[u8]) -> Result<(), NoMemory>
-    ensures exact { OnOk result (spec.Adds out.old.items ((head.now ++ decimal n ++ tail.now) ∷ []) out.new.items) }
+    ensures exact { OnOk result (spec.Adds out.old.items
+        ((head.now ++ decimal n ++ tail.now) ∷ []) out.new.items) }
 {
     out.extend_from_slice(head)?;
     push_decimal(out, n)?;
@@ -44,7 +45,8 @@ fn push_numbered(out: &mut Vec<u8>, head: &[u8], n: u32, tail: &[u8]) -> Result<
 
 fn push_scoped(out: &mut Vec<u8>, number: u32) -> Result<(), NoMemory>
     requires { 1 ≤ number }
-    ensures exact { OnOk result (spec.Adds out.old.items (spec.scoped_line number ∷ []) out.new.items) }
+    ensures exact { OnOk result (spec.Adds out.old.items
+        (spec.scoped_line number ∷ []) out.new.items) }
 {
     out.extend_from_slice(b"  @G provides s")?;
     push_decimal(out, number)?;
@@ -114,7 +116,8 @@ fn push_opens(out: &mut Vec<u8>) -> Result<(), NoMemory>
 
 /// Adds the ask that has this many before it.
 fn push_ask(out: &mut Vec<u8>, before: u32) -> Result<(), NoMemory>
-    ensures exact { OnOk result (spec.Adds out.old.items (spec.ask_line (before + 1) ∷ []) out.new.items) }
+    ensures exact { OnOk result (spec.Adds out.old.items
+        (spec.ask_line (before + 1) ∷ []) out.new.items) }
 {
     out.extend_from_slice(b"ask i")?;
     push_decimal(out, before % INSTANCES)?;
@@ -134,10 +137,10 @@ fn push_asks(out: &mut Vec<u8>, n: u32) -> Result<(), NoMemory>
     Ok(())
 }
 
-/// The document with this many asks, 1 to 20,000: a module with a chain of integers that have a scope and
-/// with three producers, one of which fails; a component with an entry point for each end of them; sixteen
-/// instances; and asks that take the instances and the entry points in turn. The text is this project's own
-/// load, in canonical form. Time and memory grow with its length.
+/// The document with this many asks, 1 to 20,000: a module with a chain of integers that have a
+/// scope and with three producers, one of which fails; a component with an entry point for each
+/// end of them; sixteen instances; and asks that take the instances and the entry points in turn.
+/// The text is this project's own load, in canonical form. Time and memory grow with its length.
 pub fn generate(alloc: Global, n: u32) -> Result<Vec<u8>, NoMemory>
     requires at_least_one { 1 ≤ n }
     requires within { n ≤ spec.ask_limit }
@@ -151,9 +154,9 @@ pub fn generate(alloc: Global, n: u32) -> Result<Vec<u8>, NoMemory>
     Ok(out)
 }
 
-/// A law: the lines of the document are those of its integers with a scope, its entry points, its instances and
-/// its asks, and nine more: the scope, the first lines of the module and of the component, the integer on which the
-/// others rest, three producers and two ends of blocks.
+/// A law: the lines of the document are those of its integers with a scope, its entry points, its
+/// instances and its asks, and nine more: the scope, the first lines of the module and of the
+/// component, the integer on which the others rest, three producers and two ends of blocks.
 pub fn lines_of_generated(n: u32)
     ensures exact { length (spec.lines n)
         ≡ spec.last_scoped + spec.entry_count + spec.instance_count + n + 9 }

@@ -106,7 +106,8 @@ fn two_asks_in_full(rt: HostRuntime) -> Result<(), Fail> {
     Ok(())
 }
 
-/// 91 lines stand round the asks, and ask 20,000 takes instance 19,999 mod 16 and entry point 19,999 mod 3.
+/// 91 lines stand before the asks, and ask 20,000 takes instance 19,999 mod 16 and entry point
+/// 19,999 mod 3.
 #[test]
 fn the_longest_document(rt: HostRuntime) -> Result<(), Fail> {
     let text = generate(rt.alloc(), 20_000)?;

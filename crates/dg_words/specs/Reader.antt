@@ -11,5 +11,6 @@ option_rule name = record (new_rule name) { long = Some name; action = Some Set 
 -- a simple command with the two options and no help, over words without the program's name
 unfoldable pub run_command : App
 run_command = with_rule (with_rule
-    (on_top (λ s. record s { no_binary_name = true; disable_help_flag = true }) (new_app (codes "dagrun")))
+    (on_top (λ s. record s { no_binary_name = true; disable_help_flag = true })
+    (new_app (codes "dagrun")))
     (option_rule (codes "workers"))) (option_rule (codes "generate"))

@@ -1,5 +1,7 @@
--- The forms of words that the programs read. A word is a list of bytes; the program's name isn't one of them.
-use Rattle.std.specs.Prelude.{◌≡◌, ℕ, ◌≤◌, ◌⊎◌, List, [], ◌∷◌, ◌++◌, Contains, Option, Some, None, unwrap_or, codes, decimal}
+-- The forms of words that the programs read. A word is a list of bytes; the program's name isn't
+-- one of them.
+use Rattle.std.specs.Prelude.{◌≡◌, ℕ, ◌≤◌, ◌⊎◌, List, [], ◌∷◌, ◌++◌, Contains}
+use Rattle.std.specs.Prelude.{Option, Some, None, unwrap_or, codes, decimal}
 use Rattle.std.specs.List.{filter_map}
 use Rattle.dg_words.specs.declared.flag.Flag.{Flag}
 use Rattle.dg_words.specs.declared.flag.Flag.TheVariants as flag
@@ -61,12 +63,15 @@ pub record BeginsWith (words : List Bytes) (choice : Choice) (rest : List Bytes)
 -- the words are those of these options, one behind the other
 pub data AreSpelled : List Choice → List Bytes → Type 0 where
   nothing : AreSpelled [] []
-  first : {choice : Choice} {more : List Choice} {words rest : List Bytes} → BeginsWith words choice rest → AreSpelled more rest → AreSpelled (choice ∷ more) words
+  first : {choice : Choice} {more : List Choice} {words rest : List Bytes}
+      → BeginsWith words choice rest → AreSpelled more rest → AreSpelled (choice ∷ more) words
 
+-- the number of workers, where that is the option
 abbrev pub workers_in : Choice → Option ℕ
 workers_in (Workers n) = Some n
 workers_in choice = None
 
+-- the number of asks to generate, where that is the option
 abbrev pub generate_in : Choice → Option ℕ
 generate_in (Generate n) = Some n
 generate_in choice = None

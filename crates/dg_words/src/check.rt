@@ -16,7 +16,8 @@ pub enum CheckWords {
 }
 
 fn read_check(words: &[String]) -> Option<CheckWords>
-    ensures exact { MatchOption result ((check : CheckWords) → ¬ spec.IsCheck (map string_bytes words.now) check)
+    ensures exact { MatchOption result
+        ((check : CheckWords) → ¬ spec.IsCheck (map string_bytes words.now) check)
         (spec.IsCheck (map string_bytes words.now)) }
 {
     let [word] = words else {
@@ -30,7 +31,8 @@ fn read_check(words: &[String]) -> Option<CheckWords>
     }
 }
 
-/// Reads the words of a check, the program's name not among them: exactly one of `check`, `plan` and `print`.
+/// Reads the words of a check, the program's name not among them: exactly one of `check`, `plan`
+/// and `print`. It never lacks memory.
 pub fn check_words(_alloc: Global, words: &[String]) -> Result<CheckWords, WordFault>
     ensures exact { IfOk result (spec.IsCheck (map string_bytes words.now)) }
     ensures cause { (result ≡ Err WordFault.BadWords)

@@ -1,6 +1,7 @@
 //! Options and the words that spell them.
 
-ghost use Rattle.std.specs.Prelude.{◌≡◌, ◌↔◌, ◌∷◌, [], ℕ, List, map, string_bytes, IsTrue, MatchOption};
+ghost use Rattle.std.specs.Prelude.{◌≡◌, ◌↔◌, ◌∷◌, [], ℕ, List, map, string_bytes};
+ghost use Rattle.std.specs.Prelude.{IsTrue, MatchOption};
 ghost use Rattle.dg_words.specs.Words as spec;
 
 use itoa::Buffer;
@@ -33,8 +34,10 @@ fn is_number(word: &str, limit: u32) -> bool
 
 /// The option of this name, where it takes this value.
 fn flag_of(name: &str, value: &str) -> Option<Flag>
-    ensures exact { MatchOption result ((choice : spec.Choice) → ¬ spec.IsOption choice name.now value.now)
-        (λ flag. (choice : spec.Choice) × (spec.flag_of choice ≡ flag) × spec.IsOption choice name.now value.now) }
+    ensures exact { MatchOption result
+        ((choice : spec.Choice) → ¬ spec.IsOption choice name.now value.now)
+        (λ flag. (choice : spec.Choice) × (spec.flag_of choice ≡ flag)
+        × spec.IsOption choice name.now value.now) }
 {
     match name {
         "--workers" if is_number(value, WORKER_LIMIT) => Some(Flag::Workers),
@@ -57,7 +60,8 @@ fn next_word(words: &[String]) -> Option<(&str, &[String])>
 /// The option with which the words begin, and the words behind it.
 pub(crate) fn first_flag(words: &[String]) -> Option<(Flag, &[String])>
     ensures exact { MatchOption result
-        ((choice : spec.Choice) (rest : List (List ℕ)) → ¬ spec.BeginsWith (map string_bytes words.entry.now) choice rest)
+        ((choice : spec.Choice) (rest : List (List ℕ))
+        → ¬ spec.BeginsWith (map string_bytes words.entry.now) choice rest)
         (λ first. (choice : spec.Choice) × (spec.flag_of choice ≡ first.0)
         × spec.BeginsWith (map string_bytes words.entry.now) choice (map string_bytes first.1.now)) }
 {

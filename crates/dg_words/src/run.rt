@@ -11,13 +11,15 @@ use std::alloc::Global;
 pub struct RunWords {
     /// How many threads answer the asks, 1 to 64. It is 4 where no word says so.
     pub workers: u32,
-    /// How many asks the document has that is generated and answered in place of the input, 1 to 20,000.
+    /// How many asks the document has that is generated and answered in place of the input,
+    /// 1 to 20,000.
     pub generate: Option<u32>,
 }
 
 /// Whether the words are those of a run.
 fn is_run(words: &[String]) -> bool
-    ensures exact { IsTrue result ↔ ((run : RunWords) × spec.IsRun (map string_bytes words.now) run) }
+    ensures exact { IsTrue result
+        ↔ ((run : RunWords) × spec.IsRun (map string_bytes words.now) run) }
 {
     let (mut workers, mut generate) = (false, false);
     let mut left = words;
@@ -35,8 +37,9 @@ fn is_run(words: &[String]) -> bool
     true
 }
 
-/// Reads the words of a run, the program's name not among them: `--workers N` and `--generate N`, also with `=` in
-/// place of the space, each at most once and in any order. No word at all means 4 workers and no generated document.
+/// Reads the words of a run, the program's name not among them: `--workers N` and `--generate N`,
+/// also as one word with `=`, each at most once and in any order. No word at all means 4 workers
+/// and no generated document.
 pub fn run_words(alloc: Global, words: &[String]) -> Result<RunWords, WordFault>
     ensures exact { IfOk result (spec.IsRun (map string_bytes words.now)) }
     ensures cause { (result ≡ Err WordFault.BadWords)

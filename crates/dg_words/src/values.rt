@@ -14,8 +14,8 @@ use std::alloc::{AllocError, Global};
 /// How many workers there are where no word says so.
 const DEFAULT_WORKERS: u32 = 4;
 
-/// The command with an option for each value. It has no help and no version, and its words are those behind the
-/// program's name.
+/// The command with an option for each value. It has no help and no version, and its words are
+/// those behind the program's name.
 #[tactic(auto, unfolding(crate::specs::Reader::run_command))]
 fn run_command<'a>(alloc: Global) -> Result<Command<'a>, AllocError>
     ensures exact { IfOk result (λ command. app_of command ≡ reader.run_command) }
@@ -36,7 +36,8 @@ fn run_command<'a>(alloc: Global) -> Result<Command<'a>, AllocError>
 /// What the command finds in words that it takes.
 fn found<'a>(alloc: Global, words: &'a [String]) -> Result<ArgMatches<'a>, NoMemory>
     requires { takes reader.run_command (map string_bytes words.now) ≡ true }
-    ensures exact { IfOk result (HasMatchesOf reader.run_command (map string_bytes words.entry.now)) }
+    ensures exact { IfOk result
+        (HasMatchesOf reader.run_command (map string_bytes words.entry.now)) }
 {
     match run_command(alloc)?.try_get_matches_from(words) {
         Ok(matches) => Ok(matches),
