@@ -53,7 +53,7 @@ class_count doc = hilt_count + length (component_headers doc)
 -- the number of the class of which this statement is the header
 abbrev pub number_of_header : Doc → Statement → Option ℕ
 number_of_header doc s =
-    option_map (λ place. hilt_count + place)
+    option_map (λ k. hilt_count + k)
     (position (λ h. h.index == s.index) (component_headers doc))
 
 -- the number of the class of this name
@@ -309,10 +309,10 @@ exposed_key doc entry =
     option_and_then plain_instance
     (option_and_then request_of (option_and_then result_of (item_at doc entry)))
 
--- an entry as the dependency at this place exposes it
+-- an entry as the dependency of this index exposes it
 abbrev pub exposed_as : Doc → ℕ → ℕ → Option Exposed
-exposed_as doc place entry =
-    option_map (λ k. record { dep = place; entry = entry; key = k }) (exposed_key doc entry)
+exposed_as doc index entry =
+    option_map (λ k. record { dep = index; entry = entry; key = k }) (exposed_key doc entry)
 
 -- what the dependencies of a class expose, by dependency and then by entry
 unfoldable pub exposed_of : Doc → ℕ → List Exposed

@@ -253,7 +253,7 @@ own_binding s = of_item s.index s.item
     of_item i (item.Class true scope n params interfaces) = binding.ClassItem i ∷ []
     of_item i other = []
 
--- the bound argument of a class that a statement declares, by its place among those of the class
+-- the bound argument of a class that a statement declares, by its index among those of the class
 abbrev pub own_argument : Doc → ℕ → Statement → List BindRef
 own_argument doc class s =
     map binding.Arg (option_to_list (position (λ b. b.index == s.index) (bound_lines doc class)))
@@ -310,7 +310,7 @@ candidates doc = flat_map (λ c. map (node_of c) (kinds_of doc c)) (range_with_l
 unfoldable pub is_reachable : Doc → Node → Bool
 is_reachable doc n = is_within same_node (targets doc) (length (candidates doc)) (entry_nodes doc) n
 
--- the nodes of a document, in order; the number of a node is its place in this list
+-- the nodes of a document, in order; the number of a node is its index in this list
 unfoldable pub nodes : Doc → List Node
 nodes doc = filter (is_reachable doc) (candidates doc)
 

@@ -163,16 +163,16 @@ is_header_of doc c s = is_number s.index (option_map (λ h. h.index) (header_of 
 abbrev pub bound_lines : Doc → ℕ → List Statement
 bound_lines doc c = filter (λ s. is_some (bound_in s.item)) (own_members doc c)
 
--- the bound argument of a class of this key that a statement declares, by its place among those of
+-- the bound argument of a class of this key that a statement declares, by its index among those of
 -- the class
 abbrev pub explicit_argument : Doc → ℕ → Key → Statement → List Owned
 explicit_argument doc c k s =
     if has_bound (bound_in s.item)
-    then map (λ place. owned c (ref.Arg place)) (option_to_list place_of)
+    then map (λ k. owned c (ref.Arg k)) (option_to_list index_of)
     else []
   where
-    place_of : Option ℕ
-    place_of = position (λ b. b.index == s.index) (bound_lines doc c)
+    index_of : Option ℕ
+    index_of = position (λ b. b.index == s.index) (bound_lines doc c)
 
     has_bound : Option Bound → Bool
     has_bound None = false

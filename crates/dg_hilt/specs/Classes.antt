@@ -22,7 +22,7 @@ components =
     ∷ ViewWithFragmentComponent
     ∷ []
 
--- the place of a component in the table
+-- the index of a component in the table
 abbrev pub number_of : HiltClass → ℕ
 number_of SingletonComponent = 0
 number_of ActivityRetainedComponent = 1
@@ -69,6 +69,6 @@ default_of c = option_and_then (λ r. r.default) (row_of c)
 abbrev pub row_of_default : HiltDefault → HiltDefaultRow
 row_of_default d = record { arg = d.arg.now; class = d.class.now }
 
--- the place of a name among the classes of the values that components have bound
+-- the index of a name among the classes of the values that components have bound
 abbrev pub default_class_named : Bytes → Option ℕ
 default_class_named name = position_from (bytes_eq name) 0 default_classes

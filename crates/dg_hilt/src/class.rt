@@ -22,7 +22,7 @@ pub struct HiltDefault {
     pub class: &'static [u8],
 }
 
-/// The number of a component: its place in the table of Hilt's components, from 0 on.
+/// The number of a component: its index in the table of Hilt's components, from 0 on.
 pub fn number(c: HiltClass) -> u32
     ensures exact { result ≡ spec.number_of c }
 {
@@ -157,7 +157,7 @@ pub fn default_of(c: HiltClass) -> Option<HiltDefault>
     }
 }
 
-/// The place of a name among the classes of the values that components have bound, each of which has one field, a text
+/// The index of a name among the classes of the values that components have bound, each of which has one field, a text
 /// `name`: Application, Service, SavedStateHandle, Activity, Fragment and View in this order. None for any other name.
 pub fn default_class(name: &[u8]) -> Option<u32>
     ensures exact { result ≡ spec.default_class_named name.now }

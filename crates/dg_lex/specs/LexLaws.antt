@@ -23,7 +23,7 @@ abbrev pub are_spaces : Bytes → Bool
 are_spaces z = list_all (λ b. b == 32) z
 
 -- A token of a line: it takes at least one byte, and no more than are there; these are spelled as its kind says; no longer
--- front of what stands at its place is a token; and where it takes the run of letters, digits and `_`, none stands behind it.
+-- front of what stands there is a token; and where it takes the run of letters, digits and `_`, none stands behind it.
 pub record IsTokenOf (line : Bytes) (t : Token) : Type 0 where
   pub some : t.from < t.to
   pub within : t.to ≤ length line
@@ -31,7 +31,7 @@ pub record IsTokenOf (line : Bytes) (t : Token) : Type 0 where
   pub longest : (n : ℕ) → t.to - t.from < n → n ≤ length (drop t.from line) → kind_of (take n (drop t.from line)) ≡ None
   pub whole : takes_run t.kind ≡ true → is_word_byte (slice_index line t.to) ≡ false
 
--- tokens lie in this order from a place on, none over another, and only spaces stand before, between and behind them
+-- tokens lie in this order from a byte on, none over another, and only spaces stand before, between and behind them
 abbrev pub LieInOrder : Bytes → ℕ → List Token → Type 0
 LieInOrder line at [] = are_spaces (drop at line) ≡ true
 LieInOrder line at (t ∷ ts) =
@@ -40,7 +40,7 @@ LieInOrder line at (t ∷ ts) =
 abbrev pub TokensLieInOrder : Type 0
 TokensLieInOrder = (line : Bytes) (ts : List Token) → tokens_of line ≡ Ok ts → LieInOrder line 0 ts
 
--- A place of a line at which no token begins: something other than a space stands there, and what a token there would
+-- A byte of a line at which no token begins: something other than a space stands there, and what a token there would
 -- take is none.
 pub record IsBadPlace (line : Bytes) (at : ℕ) : Type 0 where
   pub within : at < length line

@@ -5,10 +5,10 @@ use crate::{
 };
 use std::test::Fail;
 
-/// A kind, and the places `from` and `to`.
+/// A kind, and the bytes `from` and `to`.
 type Want = (TokenKind, u32, u32);
 
-/// A line with its tokens, or with the first place at which none begins.
+/// A line with its tokens, or with the first byte at which none begins.
 type Row = (&'static str, Result<&'static [Want], u32>);
 
 const ROWS: &[Row] = &[

@@ -7,7 +7,7 @@ use Rattle.std.proofs.lemmas.Option.{slice_get_within, get_or_from_slice_get, sl
 use lib.Seq.{take-append_seam}
 use Rattle.dg_steal.specs.declared.tally.Tally.{Tally}
 use Rattle.dg_steal.specs.Rule.{owner, other, opening}
-use Rattle.dg_steal.specs.Known.{Owned, Reached, Known, owning, reaching, known, place, reached, IsNew, AreNew, Meet}
+use Rattle.dg_steal.specs.Known.{Owned, Reached, Known, owning, reaching, known, index_of, reached, IsNew, AreNew, Meet}
 
 module _ {A : Type 0} where
   get_front : (xs : List A) (x : A) (k : ℕ) → k < length xs → slice_get (xs ++ x ∷ []) k ≡ slice_get xs k
@@ -119,26 +119,26 @@ goes_on old deque i now own others h h' own' theirs m at meet =
           (here_or_below k i below);
     }
 
-place_below : (worker from : ℕ) → from < worker → place worker from ≡ from
-place_below worker from below = grind (arith, nat_tests)
+index_below : (worker from : ℕ) → from < worker → index_of worker from ≡ from
+index_below worker from below = grind (arith, nat_tests)
 
-place_above : (worker from : ℕ) → worker ≤ from → place worker from ≡ from - 1
-place_above worker from above = grind (arith, nat_tests)
+index_above : (worker from : ℕ) → worker ≤ from → index_of worker from ≡ from - 1
+index_above worker from above = grind (arith, nat_tests)
 
-place_inside : (worker from ways : ℕ) → worker ≤ ways → from ≤ ways → from ≢ worker → place worker from < ways
-place_inside worker from ways one two apart =
-    ⊎_elim (λ (h : from < worker). rw (place_below worker from h) (omega arith)) (λ (h : worker ≤ from). rw (place_above worker from h) (omega arith)) (cases_lt from worker)
+index_inside : (worker from ways : ℕ) → worker ≤ ways → from ≤ ways → from ≢ worker → index_of worker from < ways
+index_inside worker from ways one two apart =
+    ⊎_elim (λ (h : from < worker). rw (index_below worker from h) (omega arith)) (λ (h : worker ≤ from). rw (index_above worker from h) (omega arith)) (cases_lt from worker)
 
 -- a way more at the end leaves the others where they are
-reached_front : (h : Known) (o : Owned) (mine : Reached) (from : ℕ) → place h.worker from < length h.others → reached from (known h.worker o (h.others ++ mine ∷ [])) ≡ reached from h
+reached_front : (h : Known) (o : Owned) (mine : Reached) (from : ℕ) → index_of h.worker from < length h.others → reached from (known h.worker o (h.others ++ mine ∷ [])) ≡ reached from h
 reached_front h o mine from below =
     let none = reaching (0, 0) (other 0) 0 in
-    get_or_from_slice_get (h.others ++ mine ∷ []) (place h.worker from) (reached from h) none
-    (get_front h.others mine (place h.worker from) below ∙ slice_get-get_or h.others (place h.worker from) none below)
+    get_or_from_slice_get (h.others ++ mine ∷ []) (index_of h.worker from) (reached from h) none
+    (get_front h.others mine (index_of h.worker from) below ∙ slice_get-get_or h.others (index_of h.worker from) none below)
 
-reached_last : (h : Known) (o : Owned) (mine : Reached) (from : ℕ) → place h.worker from ≡ length h.others → reached from (known h.worker o (h.others ++ mine ∷ [])) ≡ mine
+reached_last : (h : Known) (o : Owned) (mine : Reached) (from : ℕ) → index_of h.worker from ≡ length h.others → reached from (known h.worker o (h.others ++ mine ∷ [])) ≡ mine
 reached_last h o mine from at =
-    get_or_from_slice_get (h.others ++ mine ∷ []) (place h.worker from) mine (reaching (0, 0) (other 0) 0) (get_last h.others mine (place h.worker from) at)
+    get_or_from_slice_get (h.others ++ mine ∷ []) (index_of h.worker from) mine (reaching (0, 0) (other 0) 0) (get_last h.others mine (index_of h.worker from) at)
 
 -- the hand of the worker k after it has met the new one
 abbrev after : Known → Reached → Known
@@ -177,16 +177,16 @@ module _ (old : List Known) (deque : ℕ × ℕ) (now : List Known) (own : Owned
             let f = there_now from o h.0 h.1 in
             let inside = slice_get_within old from f.0 f.1 in
             let way = n.3 from f.0 f.1 apart in
-            let near : place g.worker from < length g.others = rw is (place_inside worker from (length g.others) (omega arith) (omega arith) apart) in
+            let near : index_of g.worker from < length g.others = rw is (index_inside worker from (length g.others) (omega arith) (omega arith) apart) in
             let same = reached_front g (owning g.own.deque (opening g.own.tally)) b.mine from near in
             (ap (λ (r : Reached). r.deque) same ∙ way.0 ∙ sym f.3, ap (λ (r : Reached). r.tally) same ∙ way.1))
             (λ (h : (from ≡ length now) × (newest own others ≡ o)).
             let count = m.count in
             let last = h.0 in
-            let far : place g.worker from ≡ length g.others = rw is (place_above worker from (omega arith) ∙ omega arith) in
+            let far : index_of g.worker from ≡ length g.others = rw is (index_above worker from (omega arith) ∙ omega arith) in
             let same = reached_last g (owning g.own.deque (opening g.own.tally)) b.mine from far in (
               ap (λ (r : Reached). r.deque) same ∙ b.mine_deque ∙ sym (ap (λ (o : Owned). o.deque) m.own_is) ∙ ap (λ (x : Known). x.own.deque) h.1,
-              ap (λ (r : Reached). r.tally) same ∙ b.mine_tally ∙ ap (λ k. other (k + 1)) (sym (place_below from worker (omega arith))),
+              ap (λ (r : Reached). r.tally) same ∙ b.mine_tally ∙ ap (λ k. other (k + 1)) (sym (index_below from worker (omega arith))),
             ))
             (get_cases now (newest own others) o from found),
       )
@@ -203,10 +203,10 @@ module _ (old : List Known) (deque : ℕ × ℕ) (now : List Known) (own : Owned
             let below = h.0 in
             let f = there_now from o h.0 h.1 in
             let b = f.2 in
-            let here : place (length others) from ≡ from = place_below (length others) from (omega arith) in
-            let same : reached from (newest own others) ≡ b.theirs = get_or_from_slice_get others (place (length others) from) b.theirs (reaching (0, 0) (other 0) 0) (ap (slice_get others) here ∙ b.way) in (
+            let here : index_of (length others) from ≡ from = index_below (length others) from (omega arith) in
+            let same : reached from (newest own others) ≡ b.theirs = get_or_from_slice_get others (index_of (length others) from) b.theirs (reaching (0, 0) (other 0) 0) (ap (slice_get others) here ∙ b.way) in (
               ap (λ (r : Reached). r.deque) same ∙ b.theirs_deque ∙ sym f.3,
-              ap (λ (r : Reached). r.tally) same ∙ b.theirs_tally ∙ ap (λ (t : Tally). other t.passes) (new from f.0 f.1).1 ∙ ap other (let p = place_above from (length others) (omega arith) in omega arith),
+              ap (λ (r : Reached). r.tally) same ∙ b.theirs_tally ∙ ap (λ (t : Tally). other t.passes) (new from f.0 f.1).1 ∙ ap other (let p = index_above from (length others) (omega arith) in omega arith),
             ))
             (λ (h : (from ≡ length now) × (newest own others ≡ o)). let count = m.count in let at = h.0 in absurd (apart (omega arith)))
             (get_cases now (newest own others) o from found),

@@ -38,8 +38,8 @@ abbrev pub known : ℕ → Owned → List Reached → Known
 known worker own others = record { worker = worker; own = own; others = others }
 
 -- where another worker stands among the others of a worker
-abbrev pub place : ℕ → ℕ → ℕ
-place worker from = if nat_lt from worker then from else (from - 1)
+abbrev pub index_of : ℕ → ℕ → ℕ
+index_of worker from = if nat_lt from worker then from else (from - 1)
 
 -- it is the number of another worker
 abbrev pub IsOther : Known → ℕ → Type 0
@@ -47,7 +47,7 @@ IsOther h from = (from ≢ h.worker) × (from ≤ length h.others)
 
 -- what the hand knows of the deque of another worker
 abbrev pub reached : ℕ → Known → Reached
-reached from h = slice_index_or h.others (place h.worker from) (reaching (0, 0) (other 0) 0)
+reached from h = slice_index_or h.others (index_of h.worker from) (reaching (0, 0) (other 0) 0)
 
 -- it is the hand of the same worker, among as many
 abbrev pub IsSameHand : Known → Known → Type 0
@@ -61,7 +61,7 @@ OwnDoes step old new =
 
 -- what the hand knew, and this of the deque of another worker
 abbrev pub reaches : ℕ → Reached → Known → Known
-reaches from r h = known h.worker h.own (slice_set h.others (place h.worker from) r)
+reaches from r h = known h.worker h.own (slice_set h.others (index_of h.worker from) r)
 
 -- the hand's pass to the deque of another worker made this step, and the hand knows nothing else,
 -- but for how many asks are gone from there
@@ -98,7 +98,7 @@ HasCause Again old new = (old.gone < new.gone) ⊎ WasEmpty old.tally
 abbrev pub ReachesNew : ℕ → ℕ → Known → Known → Type 0
 ReachesNew worker from h o =
     ((reached from h).deque ≡ o.own.deque)
-    × ((reached from h).tally ≡ other (place from worker + 1))
+    × ((reached from h).tally ≡ other (index_of from worker + 1))
 
 -- the hand of a worker among new hands: its deque is new, and it reaches that of each other worker
 abbrev pub IsNew : List Known → ℕ → Known → Type 0

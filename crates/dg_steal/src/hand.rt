@@ -62,8 +62,8 @@ impl Hand {
         ensures kept { IfNoAsk result (OtherDoes from Stays self.old self.new) }
         ensures cause { HasCause result (reached from self.old) (reached from self.new) }
     {
-        let place = if from < self.number { from } else { from - 1 };
-        let reach = &mut self.others[place as usize];
+        let index = if from < self.number { from } else { from - 1 };
+        let reach = &mut self.others[index as usize];
         reach.steal()
     }
 
