@@ -206,3 +206,142 @@ loose_level s n e Whole is r at = parens_loose s n e r
 
 pub reads_loose : (s : Written) (n : ℕ) (e : Expr) → IsRead s n e → IsLoose (loose s) n e
 reads_loose s n e r = loose_level s n e s.level refl r r.at
+
+-- ---- leaves
+
+-- an atom of these tokens, with no part
+leaf_read : (s : Written) (n : ℕ) (e : Expr) → s.level ≡ Prim → s.fields ≡ 0 → s.added ≡ 0 → Facts s n → NoChoice s → IsPrim s e → AtLevel s.level s e
+leaf_read s n e level f a facts plain is = rw level is
+
+atom_read : (tokens : List Lexeme) (depth n : ℕ) (fits : Bool) (e : Expr) → Facts (atom_of tokens depth fits) n → NoChoice (atom_of tokens depth fits) → ((d : ℕ) → depth ≤ suc d → (rest : List Lexeme) → NoCall rest → atom (expression_within d) (tokens ++ rest) ≡ Some (e, rest)) → IsRead (atom_of tokens depth fits) n e
+atom_read tokens depth n fits e facts plain is = record {
+  facts = facts;
+  choice = λ level. plain;
+  alone = λ level. refl;
+  at = λ d le k size rest call. atom_prim d e (tokens ++ rest) rest k size (is d le rest call);
+}
+
+text_atom : (d : ℕ) (t : Bytes) (rest : List Lexeme) → atom (expression_within d) (text_token t ∷ rest) ≡ Some (expr.Text t, rest)
+unfolding atom comes_kind text_constant text spelled
+text_atom d t rest = ap (λ (z : Bytes). Some (expr.Text z, rest)) (quoted_back.value t)
+
+integer_atom : (d : ℕ) (n : ℤ) (rest : List Lexeme) → is_in_range n ≡ true → atom (expression_within d) (integer_token n ∷ rest) ≡ Some (expr.Int n, rest)
+unfolding atom comes_kind integer_constant integer spelled
+integer_atom d n rest within = rw (decimals.token n within) (ap (λ (z : ℤ). Some (expr.Int z, rest)) (decimals.value n within))
+
+param_atom : (d : ℕ) (p : Bytes) (rest : List Lexeme) → NoCall rest → atom (expression_within d) (name_token p ∷ rest) ≡ Some (expr.Param p, rest)
+unfolding atom comes_kind comes named named_as spelled
+param_atom d p rest call = rw call refl
+
+within_one : 1 ≤ nesting_limit
+within_one = omega arith
+
+pub text_read : (t : Bytes) → IsRead (expression_written (Expr-F.Text t)) 1 (expr.Text t)
+unfolding comes comes_call
+text_read t =
+    atom_read (text_token t ∷ []) 1 1 (list_all is_plain t) (expr.Text t)
+      record { some = omega arith; fields = omega arith; added = omega arith; within = within_one; no_close = λ rest. refl; no_has = λ rest call. refl; no_ok = λ rest call. refl }
+      (λ rest. refl) (λ d le rest call. text_atom d t rest)
+
+pub integer_read : (n : ℤ) → is_in_range n ≡ true → IsRead (expression_written (Expr-F.Int n)) 1 (expr.Int n)
+unfolding comes comes_call
+integer_read n within =
+    atom_read (integer_token n ∷ []) 1 1 (is_in_range n) (expr.Int n)
+      record { some = omega arith; fields = omega arith; added = omega arith; within = within_one; no_close = λ rest. refl; no_has = λ rest call. refl; no_ok = λ rest call. refl }
+      (λ rest. refl) (λ d le rest call. integer_atom d n rest within)
+
+no_named_call : (w p : Bytes) (rest : List Lexeme) → NoCall rest → comes_call w (name_token p ∷ rest) ≡ false
+unfolding comes_call
+no_named_call w p rest call = rw call (and_false (comes kind.Name w (name_token p ∷ rest)))
+  where
+    and_false : (v : Bool) → (v && false) ≡ false
+    and_false true = refl
+    and_false false = refl
+
+pub param_read : (p : Bytes) → IsRead (expression_written (Expr-F.Param p)) 1 (expr.Param p)
+unfolding comes
+param_read p =
+    atom_read (name_token p ∷ []) 1 1 (is_name p) (expr.Param p)
+      record { some = omega arith; fields = omega arith; added = omega arith; within = within_one; no_close = λ rest. refl; no_has = λ rest call. no_named_call (codes "has") p rest call; no_ok = λ rest call. no_named_call (codes "ok") p rest call }
+      (λ rest. refl) (λ d le rest call. param_atom d p rest call)
+
+-- ---- fields and sums
+
+dot_no_call : (rest : List Lexeme) → NoCall (sign_token (codes ".") ∷ rest)
+unfolding comes
+dot_no_call rest = refl
+
+plus_stops : (rest : List Lexeme) → Stops (sign_token (codes "+") ∷ rest)
+unfolding comes
+plus_stops rest = record { call = refl; field = refl }
+
+-- what holds of the first tokens holds of them before others
+first_close : (s : List Lexeme) (more rest : List Lexeme) → NoSign (codes ")") (s ++ (more ++ rest)) → NoSign (codes ")") ((s ++ more) ++ rest)
+first_close s more rest is = rw (append_assoc s more rest) is
+
+first_call : (w : Bytes) (s more rest : List Lexeme) → comes_call w (s ++ (more ++ rest)) ≡ false → comes_call w ((s ++ more) ++ rest) ≡ false
+first_call w s more rest is = rw (append_assoc s more rest) is
+
+field_prim : (t : Written) (n : ℕ) (e : Expr) (f : Bytes) (fits : Bool) → IsTight t n e → IsPrim (record { level = Prim; tokens = t.tokens ++ (sign_token (codes ".") ∷ (name_token f ∷ [])); depth = t.depth; fields = suc t.fields; added = 0; fits = fits }) (expr.Field e f)
+field_prim t n e f fits r d le k size rest call =
+    let row : nesting_limit ≡ t.fields + suc k = omega (arith, size) in
+    rw (append_assoc t.tokens (sign_token (codes ".") ∷ (name_token f ∷ [])) rest)
+      (r.prim d le (suc k) row (sign_token (codes ".") ∷ (name_token f ∷ rest)) (dot_no_call (name_token f ∷ rest)) ∙ field_goes k e f rest)
+
+pub field_read : (s : Written) (n : ℕ) (e : Expr) (f : Bytes) → IsRead s n e → suc n ≤ nesting_limit → IsRead (expression_written (Expr-F.Field s f)) (suc n) (expr.Field e f)
+field_read s n e f r within =
+    let t = reads_tight s n e r in
+    let low = t.facts.fields in
+    let more : List Lexeme = sign_token (codes ".") ∷ (name_token f ∷ []) in
+    record {
+      facts = record {
+        some = t.facts.some;
+        fields = omega (arith, low);
+        added = omega arith;
+        within = within;
+        no_close = λ rest. first_close (tight s).tokens more rest (t.facts.no_close (more ++ rest));
+        no_has = λ rest call. first_call (codes "has") (tight s).tokens more rest (t.facts.no_has (more ++ rest) (dot_no_call (name_token f ∷ rest)));
+        no_ok = λ rest call. first_call (codes "ok") (tight s).tokens more rest (t.facts.no_ok (more ++ rest) (dot_no_call (name_token f ∷ rest)));
+      };
+      choice = λ level rest. rw (append_assoc (tight s).tokens more rest) (t.choice (more ++ rest));
+      alone = λ level. refl;
+      at = field_prim (tight s) n e f (s.fits && is_name f) t;
+    }
+
+sum_chain : (x y : Written) (m n : ℕ) (a b : Expr) (fits : Bool) → IsLoose x m a → IsTight y n b → IsChain (record { level = Chain; tokens = x.tokens ++ (sign_token (codes "+") ∷ y.tokens); depth = max x.depth y.depth; fields = 0; added = suc x.added; fits = fits }) (expr.Sum a b)
+sum_chain x y m n a b fits rx ry d le k size rest stops =
+    let row : nesting_limit ≡ x.added + suc k = omega (arith, size) in
+    let dx : x.depth ≤ suc d = omega (arith, le) in
+    let dy : y.depth ≤ suc d = omega (arith, le) in
+    let low = ry.facts.fields in
+    let high = ry.facts.within in
+    let ends : nesting_limit ≡ y.fields + (nesting_limit - y.fields) = omega (arith, low, high) in
+    let right : prim (expression_within d) (y.tokens ++ rest) ≡ Some (b, rest) = ry.prim d dy (nesting_limit - y.fields) ends rest stops.call ∙ field_ends (nesting_limit - y.fields) b rest stops.field in
+    rw (append_assoc x.tokens (sign_token (codes "+") ∷ y.tokens) rest)
+      (rx.chain d dx (suc k) row (sign_token (codes "+") ∷ (y.tokens ++ rest)) (plus_stops (y.tokens ++ rest)) ∙ added_goes d k a b (y.tokens ++ rest) rest right)
+
+plus_no_call : (rest : List Lexeme) → NoCall (sign_token (codes "+") ∷ rest)
+unfolding comes
+plus_no_call rest = refl
+
+pub sum_read : (s t : Written) (m n : ℕ) (a b : Expr) → IsRead s m a → IsRead t n b → suc (max m n) ≤ nesting_limit → IsRead (expression_written (Expr-F.Sum s t)) (suc (max m n)) (expr.Sum a b)
+sum_read s t m n a b rs rt within =
+    let x = reads_loose s m a rs in
+    let y = reads_tight t n b rt in
+    let some = x.facts.some in
+    let low = x.facts.added in
+    let more : List Lexeme = sign_token (codes "+") ∷ (tight t).tokens in
+    record {
+      facts = record {
+        some = omega (arith, some);
+        fields = omega arith;
+        added = omega (arith, low);
+        within = within;
+        no_close = λ rest. first_close (loose s).tokens more rest (x.facts.no_close (more ++ rest));
+        no_has = λ rest call. first_call (codes "has") (loose s).tokens more rest (x.facts.no_has (more ++ rest) (plus_no_call ((tight t).tokens ++ rest)));
+        no_ok = λ rest call. first_call (codes "ok") (loose s).tokens more rest (x.facts.no_ok (more ++ rest) (plus_no_call ((tight t).tokens ++ rest)));
+      };
+      choice = λ level rest. rw (append_assoc (loose s).tokens more rest) (x.choice (more ++ rest));
+      alone = λ level. absurd (let c : Chain ≡ Prim = level in cc);
+      at = sum_chain (loose s) (tight t) m n a b (s.fits && t.fits) x y;
+    }
