@@ -345,3 +345,115 @@ sum_read s t m n a b rs rt within =
       alone = λ level. absurd (let c : Chain ≡ Prim = level in cc);
       at = sum_chain (loose s) (tight t) m n a b (s.fits && t.fits) x y;
     }
+
+-- ---- conditions and choices
+
+-- a condition is read back wherever it may nest so deep
+abbrev pub IsConditionRead : WrittenCondition → Cond → Type 0
+IsConditionRead w c = (d : ℕ) → w.depth ≤ suc d → (rest : List Lexeme) → Ends rest → condition (expression_within d) (w.tokens ++ rest) ≡ Some (c, rest)
+
+chain_sum : (s : Written) (n : ℕ) (e : Expr) → IsLoose s n e → (d : ℕ) → s.depth ≤ suc d → (rest : List Lexeme) → Ends rest → sum (expression_within d) (s.tokens ++ rest) ≡ Some (e, rest)
+chain_sum s n e r d le rest ends =
+    let low = r.facts.added in
+    let high = r.facts.within in
+    let row : nesting_limit ≡ s.added + (nesting_limit - s.added) = omega (arith, low, high) in
+    r.chain d le (nesting_limit - s.added) row rest ends.stops ∙ added_ends d (nesting_limit - s.added) e rest ends.sum
+
+equal_ends : (rest : List Lexeme) → Ends (sign_token (codes "==") ∷ rest)
+unfolding comes
+equal_ends rest = record { stops = record { call = refl; field = refl }; sum = refl }
+
+less_ends : (rest : List Lexeme) → Ends (sign_token (codes "<") ∷ rest)
+unfolding comes
+less_ends rest = record { stops = record { call = refl; field = refl }; sum = refl }
+
+comparison_first : (d : ℕ) (ls : List Lexeme) → comes_call (codes "has") ls ≡ false → comes_call (codes "ok") ls ≡ false → condition (expression_within d) ls ≡ comparison (expression_within d) ls
+unfolding condition
+comparison_first d ls has ok = rw (has, ok) refl
+
+equal_read_of : (d : ℕ) (a b : Expr) (xs ys rest : List Lexeme) → sum (expression_within d) (xs ++ (sign_token (codes "==") ∷ (ys ++ rest))) ≡ Some (a, sign_token (codes "==") ∷ (ys ++ rest)) → sum (expression_within d) (ys ++ rest) ≡ Some (b, rest) → comparison (expression_within d) (xs ++ (sign_token (codes "==") ∷ (ys ++ rest))) ≡ Some (cond.Equal a b, rest)
+unfolding comparison eaten comes
+equal_read_of d a b xs ys rest left right = rw (left, right) refl
+
+less_read_of : (d : ℕ) (a b : Expr) (xs ys rest : List Lexeme) → sum (expression_within d) (xs ++ (sign_token (codes "<") ∷ (ys ++ rest))) ≡ Some (a, sign_token (codes "<") ∷ (ys ++ rest)) → sum (expression_within d) (ys ++ rest) ≡ Some (b, rest) → comparison (expression_within d) (xs ++ (sign_token (codes "<") ∷ (ys ++ rest))) ≡ Some (cond.Less a b, rest)
+unfolding comparison eaten taken comes
+less_read_of d a b xs ys rest left right = rw (left, right) refl
+
+pub equal_read : (s t : Written) (m n : ℕ) (a b : Expr) → IsRead s m a → IsRead t n b → IsConditionRead (condition_written (Cond-F.Equal s t)) (cond.Equal a b)
+equal_read s t m n a b rs rt d le rest ends =
+    let x = reads_loose s m a rs in
+    let y = reads_loose t n b rt in
+    let xs = (loose s).tokens in
+    let ys = (loose t).tokens in
+    let sign = sign_token (codes "==") in
+    let dx : (loose s).depth ≤ suc d = omega (arith, le) in
+    let dy : (loose t).depth ≤ suc d = omega (arith, le) in
+    rw (append_assoc xs (sign ∷ ys) rest)
+      (comparison_first d (xs ++ (sign ∷ (ys ++ rest))) (x.facts.no_has (sign ∷ (ys ++ rest)) (equal_ends (ys ++ rest)).stops.call) (x.facts.no_ok (sign ∷ (ys ++ rest)) (equal_ends (ys ++ rest)).stops.call)
+        ∙ equal_read_of d a b xs ys rest (chain_sum (loose s) m a x d dx (sign ∷ (ys ++ rest)) (equal_ends (ys ++ rest))) (chain_sum (loose t) n b y d dy rest ends))
+
+pub less_read : (s t : Written) (m n : ℕ) (a b : Expr) → IsRead s m a → IsRead t n b → IsConditionRead (condition_written (Cond-F.Less s t)) (cond.Less a b)
+less_read s t m n a b rs rt d le rest ends =
+    let x = reads_loose s m a rs in
+    let y = reads_loose t n b rt in
+    let xs = (loose s).tokens in
+    let ys = (loose t).tokens in
+    let sign = sign_token (codes "<") in
+    let dx : (loose s).depth ≤ suc d = omega (arith, le) in
+    let dy : (loose t).depth ≤ suc d = omega (arith, le) in
+    rw (append_assoc xs (sign ∷ ys) rest)
+      (comparison_first d (xs ++ (sign ∷ (ys ++ rest))) (x.facts.no_has (sign ∷ (ys ++ rest)) (less_ends (ys ++ rest)).stops.call) (x.facts.no_ok (sign ∷ (ys ++ rest)) (less_ends (ys ++ rest)).stops.call)
+        ∙ less_read_of d a b xs ys rest (chain_sum (loose s) m a x d dx (sign ∷ (ys ++ rest)) (less_ends (ys ++ rest))) (chain_sum (loose t) n b y d dy rest ends))
+
+pub has_read : (p : Bytes) → IsConditionRead (condition_written (Cond-F.Has p)) (cond.Has p)
+unfolding condition comes_call comes has taken enclosed spelled
+has_read p d le rest ends = refl
+
+pub is_ok_read : (p : Bytes) → IsConditionRead (condition_written (Cond-F.IsOk p)) (cond.IsOk p)
+unfolding condition comes_call comes is_ok taken enclosed spelled
+is_ok_read p d le rest ends = refl
+
+then_ends : (rest : List Lexeme) → Ends (word_token (codes "then") ∷ rest)
+unfolding comes
+then_ends rest = record { stops = record { call = refl; field = refl }; sum = refl }
+
+else_ends : (rest : List Lexeme) → Ends (word_token (codes "else") ∷ rest)
+unfolding comes
+else_ends rest = record { stops = record { call = refl; field = refl }; sum = refl }
+
+choice_of : (d : ℕ) (c : Cond) (a b : Expr) (cs xs ys rest : List Lexeme) → condition (expression_within d) (cs ++ (word_token (codes "then") ∷ (xs ++ (word_token (codes "else") ∷ (ys ++ rest))))) ≡ Some (c, word_token (codes "then") ∷ (xs ++ (word_token (codes "else") ∷ (ys ++ rest)))) → expression_within d (xs ++ (word_token (codes "else") ∷ (ys ++ rest))) ≡ Some (a, word_token (codes "else") ∷ (ys ++ rest)) → expression_within d (ys ++ rest) ≡ Some (b, rest) → expression_within (suc d) (word_token (codes "if") ∷ (cs ++ (word_token (codes "then") ∷ (xs ++ (word_token (codes "else") ∷ (ys ++ rest)))))) ≡ Some (expr.If c a b, rest)
+unfolding expression_within whole choice taken comes
+choice_of d c a b cs xs ys rest first second third = rw (first, second, third) refl
+
+if_apart : (w : WrittenCondition) (xs ys rest : List Lexeme) → if_tokens w xs ys ++ rest ≡ word_token (codes "if") ∷ (w.tokens ++ (word_token (codes "then") ∷ (xs ++ (word_token (codes "else") ∷ (ys ++ rest)))))
+if_apart w xs ys rest = rw (append_assoc w.tokens (word_token (codes "then") ∷ (xs ++ (word_token (codes "else") ∷ ys))) rest, append_assoc xs (word_token (codes "else") ∷ ys) rest) refl
+
+if_whole : (w : WrittenCondition) (s t : Written) (m n : ℕ) (c : Cond) (a b : Expr) → IsConditionRead w c → IsRead s m a → IsRead t n b → (d : ℕ) → suc (max w.depth (max s.depth t.depth)) ≤ d → (rest : List Lexeme) → Ends rest → expression_within d (if_tokens w s.tokens t.tokens ++ rest) ≡ Some (expr.If c a b, rest)
+if_whole w s t m n c a b rc rs rt zero le rest ends = absurd (omega (arith, le))
+if_whole w s t m n c a b rc rs rt (suc d) le rest ends =
+    let dc : w.depth ≤ suc d = omega (arith, le) in
+    let dx : s.depth ≤ d = omega (arith, le) in
+    let dy : t.depth ≤ d = omega (arith, le) in
+    let later : List Lexeme = word_token (codes "else") ∷ (t.tokens ++ rest) in
+    rw (if_apart w s.tokens t.tokens rest)
+      (choice_of d c a b w.tokens s.tokens t.tokens rest
+        (rc d dc (word_token (codes "then") ∷ (s.tokens ++ later)) (then_ends (s.tokens ++ later)))
+        (reads_whole s m a rs d dx later (else_ends (t.tokens ++ rest)))
+        (reads_whole t n b rt d dy rest ends))
+
+pub if_read : (w : WrittenCondition) (s t : Written) (k m n : ℕ) (c : Cond) (a b : Expr) → IsConditionRead w c → IsRead s m a → IsRead t n b → suc (max k (max m n)) ≤ nesting_limit → IsRead (expression_written (Expr-F.If w s t)) (suc (max k (max m n))) (expr.If c a b)
+unfolding comes comes_call
+if_read w s t k m n c a b rc rs rt within = record {
+  facts = record {
+    some = omega arith;
+    fields = omega arith;
+    added = omega arith;
+    within = within;
+    no_close = λ rest. refl;
+    no_has = λ rest call. refl;
+    no_ok = λ rest call. refl;
+  };
+  choice = λ level. absurd (level refl);
+  alone = λ level. refl;
+  at = if_whole w s t m n c a b rc rs rt;
+}
