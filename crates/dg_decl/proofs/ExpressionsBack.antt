@@ -131,11 +131,11 @@ reads_whole s n e r = whole_at s n e s.level refl r r.at
 abbrev close_paren : Lexeme
 close_paren = sign_token (codes ")")
 
-close_ends : (rest : List Lexeme) → Ends (close_paren ∷ rest)
+pub close_ends : (rest : List Lexeme) → Ends (close_paren ∷ rest)
 unfolding comes
 close_ends rest = record { stops = record { call = refl; field = refl }; sum = refl }
 
-enclosed_back : (r : Reader Expr) (e : Expr) (tokens rest : List Lexeme) → r (tokens ++ (close_paren ∷ rest)) ≡ Some (e, close_paren ∷ rest) → enclosed r (in_parens tokens ++ rest) ≡ Some (e, rest)
+pub enclosed_back : (r : Reader Expr) (e : Expr) (tokens rest : List Lexeme) → r (tokens ++ (close_paren ∷ rest)) ≡ Some (e, close_paren ∷ rest) → enclosed r (in_parens tokens ++ rest) ≡ Some (e, rest)
 unfolding enclosed taken comes
 enclosed_back r e tokens rest is = rw (append_assoc tokens (close_paren ∷ []) rest, is) refl
 
@@ -213,7 +213,7 @@ reads_loose s n e r = loose_level s n e s.level refl r r.at
 leaf_read : (s : Written) (n : ℕ) (e : Expr) → s.level ≡ Prim → s.fields ≡ 0 → s.added ≡ 0 → Facts s n → NoChoice s → IsPrim s e → AtLevel s.level s e
 leaf_read s n e level f a facts plain is = rw level is
 
-atom_read : (tokens : List Lexeme) (depth n : ℕ) (fits : Bool) (e : Expr) → Facts (atom_of tokens depth fits) n → NoChoice (atom_of tokens depth fits) → ((d : ℕ) → depth ≤ suc d → (rest : List Lexeme) → NoCall rest → atom (expression_within d) (tokens ++ rest) ≡ Some (e, rest)) → IsRead (atom_of tokens depth fits) n e
+pub atom_read : (tokens : List Lexeme) (depth n : ℕ) (fits : Bool) (e : Expr) → Facts (atom_of tokens depth fits) n → NoChoice (atom_of tokens depth fits) → ((d : ℕ) → depth ≤ suc d → (rest : List Lexeme) → NoCall rest → atom (expression_within d) (tokens ++ rest) ≡ Some (e, rest)) → IsRead (atom_of tokens depth fits) n e
 atom_read tokens depth n fits e facts plain is = record {
   facts = facts;
   choice = λ level. plain;
@@ -233,7 +233,7 @@ param_atom : (d : ℕ) (p : Bytes) (rest : List Lexeme) → NoCall rest → atom
 unfolding atom comes_kind comes named named_as spelled
 param_atom d p rest call = rw call refl
 
-within_one : 1 ≤ nesting_limit
+pub within_one : 1 ≤ nesting_limit
 within_one = omega arith
 
 pub text_read : (t : Bytes) → IsRead (expression_written (Expr-F.Text t)) 1 (expr.Text t)
