@@ -150,3 +150,93 @@ size_atom d e tokens rest is = rw is refl
 fail_atom : (d : ℕ) (e : Expr) (tokens rest : List Lexeme) → enclosed (expression_within d) (in_parens tokens ++ rest) ≡ Some (e, rest) → atom (expression_within d) (name_token (codes "fail") ∷ (in_parens tokens ++ rest)) ≡ Some (expr.Call call.Fail (e ∷ []), rest)
 unfolding atom named named_as function call_of call_of_one comes comes_kind spelled
 fail_atom d e tokens rest is = rw is refl
+
+one_back : (d : ℕ) (e : Expr) (rest : List Lexeme) → AllRead (e ∷ []) → DepthsWithin d (e ∷ []) → enclosed (expression_within d) (in_parens (listed (e ∷ [])) ++ rest) ≡ Some (e, rest)
+one_back d e rest all depths =
+    enclosed_back (expression_within d) e (listed (e ∷ [])) rest
+      (rw (append_assoc (written e).tokens [] (close_paren ∷ rest)) (reads_whole (written e) (nesting e) e all.0 d depths.0 (close_paren ∷ rest) (close_ends rest)))
+
+-- the one argument of a function that takes one
+abbrev pub OneAtom : CallName → Type 0
+OneAtom f = (d : ℕ) (e : Expr) (tokens rest : List Lexeme) → enclosed (expression_within d) (in_parens tokens ++ rest) ≡ Some (e, rest) → atom (expression_within d) (name_token (call_name f) ∷ (in_parens tokens ++ rest)) ≡ Some (expr.Call f (e ∷ []), rest)
+
+one_call : (f : CallName) → OneAtom f → (d : ℕ) (es : List Expr) (rest : List Lexeme) → (length es == 1) ≡ true → AllRead es → DepthsWithin d es → atom (expression_within d) (name_token (call_name f) ∷ (list_tokens (map written es) ++ rest)) ≡ Some (expr.Call f es, rest)
+one_call f is d [] rest one all depths = absurd (false≢true one)
+one_call f is d (e ∷ []) rest one all depths = is d e (listed (e ∷ [])) rest (one_back d e rest all depths)
+one_call f is d (e ∷ g ∷ es) rest one all depths = absurd (let h = eqb-true (length (e ∷ g ∷ es)) 1 one in omega (arith, h))
+
+cat_call : (d : ℕ) (es : List Expr) (rest : List Lexeme) → nat_lt 0 (length es) ≡ true → AllRead es → DepthsWithin d es → length es ≤ list_limit → atom (expression_within d) (name_token (codes "cat") ∷ (list_tokens (map written es) ++ rest)) ≡ Some (expr.Call call.Cat es, rest)
+cat_call d [] rest some all depths short = absurd (false≢true some)
+cat_call d (e ∷ es) rest some all depths short = cat_atom d (e ∷ es) (listed (e ∷ es)) rest (some_back d e es rest all depths short)
+
+call_atom : (f : CallName) (d : ℕ) (es : List Expr) (rest : List Lexeme) → count_fits f (length es) ≡ true → AllRead es → DepthsWithin d es → length es ≤ list_limit → atom (expression_within d) (name_token (call_name f) ∷ (list_tokens (map written es) ++ rest)) ≡ Some (expr.Call f es, rest)
+call_atom call.Cat d es rest count all depths short = cat_call d es rest count all depths short
+call_atom call.TextOf d es rest count all depths short = one_call call.TextOf text_of_atom d es rest count all depths
+call_atom call.Size d es rest count all depths short = one_call call.Size size_atom d es rest count all depths
+call_atom call.SetOf d es rest count all depths short = set_atom d es (listed es) rest (list_back d es rest all depths short)
+call_atom call.Fail d es rest count all depths short = one_call call.Fail fail_atom d es rest count all depths
+
+no_has_call : (f : CallName) (rest : List Lexeme) → comes_call (codes "has") (name_token (call_name f) ∷ rest) ≡ false
+unfolding comes_call comes
+no_has_call call.Cat rest = refl
+no_has_call call.TextOf rest = refl
+no_has_call call.Size rest = refl
+no_has_call call.SetOf rest = refl
+no_has_call call.Fail rest = refl
+
+no_ok_call : (f : CallName) (rest : List Lexeme) → comes_call (codes "ok") (name_token (call_name f) ∷ rest) ≡ false
+unfolding comes_call comes
+no_ok_call call.Cat rest = refl
+no_ok_call call.TextOf rest = refl
+no_ok_call call.Size rest = refl
+no_ok_call call.SetOf rest = refl
+no_ok_call call.Fail rest = refl
+
+pub call_read : (f : CallName) (es : List Expr) (n : ℕ) → AllRead es → length es ≤ list_limit → count_fits f (length es) ≡ true → suc n ≤ nesting_limit → IsRead (expression_written (Expr-F.Call f (map written es))) (suc n) (expr.Call f es)
+unfolding comes
+call_read f es n all short count within =
+    atom_read (name_token (call_name f) ∷ list_tokens (map written es)) (suc (list_depth (map written es))) (suc n) (list_fits (map written es) && count_fits f (length (map written es))) (expr.Call f es)
+      record { some = omega arith; fields = omega arith; added = omega arith; within = within; no_close = λ rest. refl; no_has = λ rest call. no_has_call f (list_tokens (map written es) ++ rest); no_ok = λ rest call. no_ok_call f (list_tokens (map written es) ++ rest) }
+      (λ rest. refl)
+      (λ d le rest call. call_atom f d es rest count all (part_depths d es le) short)
+
+by_name_atom : (f : ParamCall) (d : ℕ) (p : Bytes) (rest : List Lexeme) → atom (expression_within d) (name_token (param_call_name f) ∷ (in_parens (name_token p ∷ []) ++ rest)) ≡ Some (expr.ByName f p, rest)
+unfolding atom named named_as function call_by_name enclosed taken comes comes_kind spelled
+by_name_atom by.Get d p rest = refl
+by_name_atom by.Value d p rest = refl
+by_name_atom by.Values d p rest = refl
+by_name_atom by.Failure d p rest = refl
+
+no_has_by_name : (f : ParamCall) (rest : List Lexeme) → comes_call (codes "has") (name_token (param_call_name f) ∷ rest) ≡ false
+unfolding comes_call comes
+no_has_by_name by.Get rest = refl
+no_has_by_name by.Value rest = refl
+no_has_by_name by.Values rest = refl
+no_has_by_name by.Failure rest = refl
+
+no_ok_by_name : (f : ParamCall) (rest : List Lexeme) → comes_call (codes "ok") (name_token (param_call_name f) ∷ rest) ≡ false
+unfolding comes_call comes
+no_ok_by_name by.Get rest = refl
+no_ok_by_name by.Value rest = refl
+no_ok_by_name by.Values rest = refl
+no_ok_by_name by.Failure rest = refl
+
+pub by_name_read : (f : ParamCall) (p : Bytes) → IsRead (expression_written (Expr-F.ByName f p)) 1 (expr.ByName f p)
+unfolding comes
+by_name_read f p =
+    atom_read (name_token (param_call_name f) ∷ in_parens (name_token p ∷ [])) 1 1 (is_name p) (expr.ByName f p)
+      record { some = omega arith; fields = omega arith; added = omega arith; within = within_one; no_close = λ rest. refl; no_has = λ rest call. no_has_by_name f (in_parens (name_token p ∷ []) ++ rest); no_ok = λ rest call. no_ok_by_name f (in_parens (name_token p ∷ []) ++ rest) }
+      (λ rest. refl)
+      (λ d le rest call. by_name_atom f d p rest)
+
+or_else_atom : (d : ℕ) (p : Bytes) (e : Expr) (tokens rest : List Lexeme) → expression_within d (tokens ++ (close_paren ∷ rest)) ≡ Some (e, close_paren ∷ rest) → atom (expression_within d) (name_token (codes "orElse") ∷ (in_parens (name_token p ∷ (comma ∷ tokens)) ++ rest)) ≡ Some (expr.OrElse p e, rest)
+unfolding atom named named_as function or_else taken comes comes_kind spelled
+or_else_atom d p e tokens rest is = rw (append_assoc tokens (close_paren ∷ []) rest, is) refl
+
+pub or_else_read : (p : Bytes) (s : Written) (n : ℕ) (e : Expr) → IsRead s n e → suc n ≤ nesting_limit → IsRead (expression_written (Expr-F.OrElse p s)) (suc n) (expr.OrElse p e)
+unfolding comes comes_call
+or_else_read p s n e r within =
+    atom_read (name_token (codes "orElse") ∷ in_parens (name_token p ∷ (comma ∷ s.tokens))) (suc s.depth) (suc n) (is_name p && s.fits) (expr.OrElse p e)
+      record { some = omega arith; fields = omega arith; added = omega arith; within = within; no_close = λ rest. refl; no_has = λ rest call. refl; no_ok = λ rest call. refl }
+      (λ rest. refl)
+      (λ d le rest call. (let below : s.depth ≤ d = omega (arith, le) in or_else_atom d p e s.tokens rest (reads_whole s n e r d below (close_paren ∷ rest) (close_ends rest))))
