@@ -131,11 +131,11 @@ reads_whole s n e r = whole_at s n e s.level refl r r.at
 abbrev close_paren : Lexeme
 close_paren = sign_token (codes ")")
 
-close_ends : (rest : List Lexeme) → Ends (close_paren ∷ rest)
+pub close_ends : (rest : List Lexeme) → Ends (close_paren ∷ rest)
 unfolding comes
 close_ends rest = record { stops = record { call = refl; field = refl }; sum = refl }
 
-enclosed_back : (r : Reader Expr) (e : Expr) (tokens rest : List Lexeme) → r (tokens ++ (close_paren ∷ rest)) ≡ Some (e, close_paren ∷ rest) → enclosed r (in_parens tokens ++ rest) ≡ Some (e, rest)
+pub enclosed_back : (r : Reader Expr) (e : Expr) (tokens rest : List Lexeme) → r (tokens ++ (close_paren ∷ rest)) ≡ Some (e, close_paren ∷ rest) → enclosed r (in_parens tokens ++ rest) ≡ Some (e, rest)
 unfolding enclosed taken comes
 enclosed_back r e tokens rest is = rw (append_assoc tokens (close_paren ∷ []) rest, is) refl
 
@@ -206,3 +206,254 @@ loose_level s n e Whole is r at = parens_loose s n e r
 
 pub reads_loose : (s : Written) (n : ℕ) (e : Expr) → IsRead s n e → IsLoose (loose s) n e
 reads_loose s n e r = loose_level s n e s.level refl r r.at
+
+-- ---- leaves
+
+-- an atom of these tokens, with no part
+leaf_read : (s : Written) (n : ℕ) (e : Expr) → s.level ≡ Prim → s.fields ≡ 0 → s.added ≡ 0 → Facts s n → NoChoice s → IsPrim s e → AtLevel s.level s e
+leaf_read s n e level f a facts plain is = rw level is
+
+pub atom_read : (tokens : List Lexeme) (depth n : ℕ) (fits : Bool) (e : Expr) → Facts (atom_of tokens depth fits) n → NoChoice (atom_of tokens depth fits) → ((d : ℕ) → depth ≤ suc d → (rest : List Lexeme) → NoCall rest → atom (expression_within d) (tokens ++ rest) ≡ Some (e, rest)) → IsRead (atom_of tokens depth fits) n e
+atom_read tokens depth n fits e facts plain is = record {
+  facts = facts;
+  choice = λ level. plain;
+  alone = λ level. refl;
+  at = λ d le k size rest call. atom_prim d e (tokens ++ rest) rest k size (is d le rest call);
+}
+
+text_atom : (d : ℕ) (t : Bytes) (rest : List Lexeme) → atom (expression_within d) (text_token t ∷ rest) ≡ Some (expr.Text t, rest)
+unfolding atom comes_kind text_constant text spelled
+text_atom d t rest = ap (λ (z : Bytes). Some (expr.Text z, rest)) (quoted_back.value t)
+
+integer_atom : (d : ℕ) (n : ℤ) (rest : List Lexeme) → is_in_range n ≡ true → atom (expression_within d) (integer_token n ∷ rest) ≡ Some (expr.Int n, rest)
+unfolding atom comes_kind integer_constant integer spelled
+integer_atom d n rest within = rw (decimals.token n within) (ap (λ (z : ℤ). Some (expr.Int z, rest)) (decimals.value n within))
+
+param_atom : (d : ℕ) (p : Bytes) (rest : List Lexeme) → NoCall rest → atom (expression_within d) (name_token p ∷ rest) ≡ Some (expr.Param p, rest)
+unfolding atom comes_kind comes named named_as spelled
+param_atom d p rest call = rw call refl
+
+pub within_one : 1 ≤ nesting_limit
+within_one = omega arith
+
+pub text_read : (t : Bytes) → IsRead (expression_written (Expr-F.Text t)) 1 (expr.Text t)
+unfolding comes comes_call
+text_read t =
+    atom_read (text_token t ∷ []) 1 1 (list_all is_plain t) (expr.Text t)
+      record { some = omega arith; fields = omega arith; added = omega arith; within = within_one; no_close = λ rest. refl; no_has = λ rest call. refl; no_ok = λ rest call. refl }
+      (λ rest. refl) (λ d le rest call. text_atom d t rest)
+
+pub integer_read : (n : ℤ) → is_in_range n ≡ true → IsRead (expression_written (Expr-F.Int n)) 1 (expr.Int n)
+unfolding comes comes_call
+integer_read n within =
+    atom_read (integer_token n ∷ []) 1 1 (is_in_range n) (expr.Int n)
+      record { some = omega arith; fields = omega arith; added = omega arith; within = within_one; no_close = λ rest. refl; no_has = λ rest call. refl; no_ok = λ rest call. refl }
+      (λ rest. refl) (λ d le rest call. integer_atom d n rest within)
+
+no_named_call : (w p : Bytes) (rest : List Lexeme) → NoCall rest → comes_call w (name_token p ∷ rest) ≡ false
+unfolding comes_call
+no_named_call w p rest call = rw call (and_false (comes kind.Name w (name_token p ∷ rest)))
+  where
+    and_false : (v : Bool) → (v && false) ≡ false
+    and_false true = refl
+    and_false false = refl
+
+pub param_read : (p : Bytes) → IsRead (expression_written (Expr-F.Param p)) 1 (expr.Param p)
+unfolding comes
+param_read p =
+    atom_read (name_token p ∷ []) 1 1 (is_name p) (expr.Param p)
+      record { some = omega arith; fields = omega arith; added = omega arith; within = within_one; no_close = λ rest. refl; no_has = λ rest call. no_named_call (codes "has") p rest call; no_ok = λ rest call. no_named_call (codes "ok") p rest call }
+      (λ rest. refl) (λ d le rest call. param_atom d p rest call)
+
+-- ---- fields and sums
+
+dot_no_call : (rest : List Lexeme) → NoCall (sign_token (codes ".") ∷ rest)
+unfolding comes
+dot_no_call rest = refl
+
+plus_stops : (rest : List Lexeme) → Stops (sign_token (codes "+") ∷ rest)
+unfolding comes
+plus_stops rest = record { call = refl; field = refl }
+
+-- what holds of the first tokens holds of them before others
+first_close : (s : List Lexeme) (more rest : List Lexeme) → NoSign (codes ")") (s ++ (more ++ rest)) → NoSign (codes ")") ((s ++ more) ++ rest)
+first_close s more rest is = rw (append_assoc s more rest) is
+
+first_call : (w : Bytes) (s more rest : List Lexeme) → comes_call w (s ++ (more ++ rest)) ≡ false → comes_call w ((s ++ more) ++ rest) ≡ false
+first_call w s more rest is = rw (append_assoc s more rest) is
+
+field_prim : (t : Written) (n : ℕ) (e : Expr) (f : Bytes) (fits : Bool) → IsTight t n e → IsPrim (record { level = Prim; tokens = t.tokens ++ (sign_token (codes ".") ∷ (name_token f ∷ [])); depth = t.depth; fields = suc t.fields; added = 0; fits = fits }) (expr.Field e f)
+field_prim t n e f fits r d le k size rest call =
+    let row : nesting_limit ≡ t.fields + suc k = omega (arith, size) in
+    rw (append_assoc t.tokens (sign_token (codes ".") ∷ (name_token f ∷ [])) rest)
+      (r.prim d le (suc k) row (sign_token (codes ".") ∷ (name_token f ∷ rest)) (dot_no_call (name_token f ∷ rest)) ∙ field_goes k e f rest)
+
+pub field_read : (s : Written) (n : ℕ) (e : Expr) (f : Bytes) → IsRead s n e → suc n ≤ nesting_limit → IsRead (expression_written (Expr-F.Field s f)) (suc n) (expr.Field e f)
+field_read s n e f r within =
+    let t = reads_tight s n e r in
+    let low = t.facts.fields in
+    let more : List Lexeme = sign_token (codes ".") ∷ (name_token f ∷ []) in
+    record {
+      facts = record {
+        some = t.facts.some;
+        fields = omega (arith, low);
+        added = omega arith;
+        within = within;
+        no_close = λ rest. first_close (tight s).tokens more rest (t.facts.no_close (more ++ rest));
+        no_has = λ rest call. first_call (codes "has") (tight s).tokens more rest (t.facts.no_has (more ++ rest) (dot_no_call (name_token f ∷ rest)));
+        no_ok = λ rest call. first_call (codes "ok") (tight s).tokens more rest (t.facts.no_ok (more ++ rest) (dot_no_call (name_token f ∷ rest)));
+      };
+      choice = λ level rest. rw (append_assoc (tight s).tokens more rest) (t.choice (more ++ rest));
+      alone = λ level. refl;
+      at = field_prim (tight s) n e f (s.fits && is_name f) t;
+    }
+
+sum_chain : (x y : Written) (m n : ℕ) (a b : Expr) (fits : Bool) → IsLoose x m a → IsTight y n b → IsChain (record { level = Chain; tokens = x.tokens ++ (sign_token (codes "+") ∷ y.tokens); depth = max x.depth y.depth; fields = 0; added = suc x.added; fits = fits }) (expr.Sum a b)
+sum_chain x y m n a b fits rx ry d le k size rest stops =
+    let row : nesting_limit ≡ x.added + suc k = omega (arith, size) in
+    let dx : x.depth ≤ suc d = omega (arith, le) in
+    let dy : y.depth ≤ suc d = omega (arith, le) in
+    let low = ry.facts.fields in
+    let high = ry.facts.within in
+    let ends : nesting_limit ≡ y.fields + (nesting_limit - y.fields) = omega (arith, low, high) in
+    let right : prim (expression_within d) (y.tokens ++ rest) ≡ Some (b, rest) = ry.prim d dy (nesting_limit - y.fields) ends rest stops.call ∙ field_ends (nesting_limit - y.fields) b rest stops.field in
+    rw (append_assoc x.tokens (sign_token (codes "+") ∷ y.tokens) rest)
+      (rx.chain d dx (suc k) row (sign_token (codes "+") ∷ (y.tokens ++ rest)) (plus_stops (y.tokens ++ rest)) ∙ added_goes d k a b (y.tokens ++ rest) rest right)
+
+plus_no_call : (rest : List Lexeme) → NoCall (sign_token (codes "+") ∷ rest)
+unfolding comes
+plus_no_call rest = refl
+
+pub sum_read : (s t : Written) (m n : ℕ) (a b : Expr) → IsRead s m a → IsRead t n b → suc (max m n) ≤ nesting_limit → IsRead (expression_written (Expr-F.Sum s t)) (suc (max m n)) (expr.Sum a b)
+sum_read s t m n a b rs rt within =
+    let x = reads_loose s m a rs in
+    let y = reads_tight t n b rt in
+    let some = x.facts.some in
+    let low = x.facts.added in
+    let more : List Lexeme = sign_token (codes "+") ∷ (tight t).tokens in
+    record {
+      facts = record {
+        some = omega (arith, some);
+        fields = omega arith;
+        added = omega (arith, low);
+        within = within;
+        no_close = λ rest. first_close (loose s).tokens more rest (x.facts.no_close (more ++ rest));
+        no_has = λ rest call. first_call (codes "has") (loose s).tokens more rest (x.facts.no_has (more ++ rest) (plus_no_call ((tight t).tokens ++ rest)));
+        no_ok = λ rest call. first_call (codes "ok") (loose s).tokens more rest (x.facts.no_ok (more ++ rest) (plus_no_call ((tight t).tokens ++ rest)));
+      };
+      choice = λ level rest. rw (append_assoc (loose s).tokens more rest) (x.choice (more ++ rest));
+      alone = λ level. absurd (let c : Chain ≡ Prim = level in cc);
+      at = sum_chain (loose s) (tight t) m n a b (s.fits && t.fits) x y;
+    }
+
+-- ---- conditions and choices
+
+-- a condition is read back wherever it may nest so deep
+abbrev pub IsConditionRead : WrittenCondition → Cond → Type 0
+IsConditionRead w c = (d : ℕ) → w.depth ≤ suc d → (rest : List Lexeme) → Ends rest → condition (expression_within d) (w.tokens ++ rest) ≡ Some (c, rest)
+
+chain_sum : (s : Written) (n : ℕ) (e : Expr) → IsLoose s n e → (d : ℕ) → s.depth ≤ suc d → (rest : List Lexeme) → Ends rest → sum (expression_within d) (s.tokens ++ rest) ≡ Some (e, rest)
+chain_sum s n e r d le rest ends =
+    let low = r.facts.added in
+    let high = r.facts.within in
+    let row : nesting_limit ≡ s.added + (nesting_limit - s.added) = omega (arith, low, high) in
+    r.chain d le (nesting_limit - s.added) row rest ends.stops ∙ added_ends d (nesting_limit - s.added) e rest ends.sum
+
+equal_ends : (rest : List Lexeme) → Ends (sign_token (codes "==") ∷ rest)
+unfolding comes
+equal_ends rest = record { stops = record { call = refl; field = refl }; sum = refl }
+
+less_ends : (rest : List Lexeme) → Ends (sign_token (codes "<") ∷ rest)
+unfolding comes
+less_ends rest = record { stops = record { call = refl; field = refl }; sum = refl }
+
+comparison_first : (d : ℕ) (ls : List Lexeme) → comes_call (codes "has") ls ≡ false → comes_call (codes "ok") ls ≡ false → condition (expression_within d) ls ≡ comparison (expression_within d) ls
+unfolding condition
+comparison_first d ls has ok = rw (has, ok) refl
+
+equal_read_of : (d : ℕ) (a b : Expr) (xs ys rest : List Lexeme) → sum (expression_within d) (xs ++ (sign_token (codes "==") ∷ (ys ++ rest))) ≡ Some (a, sign_token (codes "==") ∷ (ys ++ rest)) → sum (expression_within d) (ys ++ rest) ≡ Some (b, rest) → comparison (expression_within d) (xs ++ (sign_token (codes "==") ∷ (ys ++ rest))) ≡ Some (cond.Equal a b, rest)
+unfolding comparison eaten comes
+equal_read_of d a b xs ys rest left right = rw (left, right) refl
+
+less_read_of : (d : ℕ) (a b : Expr) (xs ys rest : List Lexeme) → sum (expression_within d) (xs ++ (sign_token (codes "<") ∷ (ys ++ rest))) ≡ Some (a, sign_token (codes "<") ∷ (ys ++ rest)) → sum (expression_within d) (ys ++ rest) ≡ Some (b, rest) → comparison (expression_within d) (xs ++ (sign_token (codes "<") ∷ (ys ++ rest))) ≡ Some (cond.Less a b, rest)
+unfolding comparison eaten taken comes
+less_read_of d a b xs ys rest left right = rw (left, right) refl
+
+pub equal_read : (s t : Written) (m n : ℕ) (a b : Expr) → IsRead s m a → IsRead t n b → IsConditionRead (condition_written (Cond-F.Equal s t)) (cond.Equal a b)
+equal_read s t m n a b rs rt d le rest ends =
+    let x = reads_loose s m a rs in
+    let y = reads_loose t n b rt in
+    let xs = (loose s).tokens in
+    let ys = (loose t).tokens in
+    let sign = sign_token (codes "==") in
+    let dx : (loose s).depth ≤ suc d = omega (arith, le) in
+    let dy : (loose t).depth ≤ suc d = omega (arith, le) in
+    rw (append_assoc xs (sign ∷ ys) rest)
+      (comparison_first d (xs ++ (sign ∷ (ys ++ rest))) (x.facts.no_has (sign ∷ (ys ++ rest)) (equal_ends (ys ++ rest)).stops.call) (x.facts.no_ok (sign ∷ (ys ++ rest)) (equal_ends (ys ++ rest)).stops.call)
+        ∙ equal_read_of d a b xs ys rest (chain_sum (loose s) m a x d dx (sign ∷ (ys ++ rest)) (equal_ends (ys ++ rest))) (chain_sum (loose t) n b y d dy rest ends))
+
+pub less_read : (s t : Written) (m n : ℕ) (a b : Expr) → IsRead s m a → IsRead t n b → IsConditionRead (condition_written (Cond-F.Less s t)) (cond.Less a b)
+less_read s t m n a b rs rt d le rest ends =
+    let x = reads_loose s m a rs in
+    let y = reads_loose t n b rt in
+    let xs = (loose s).tokens in
+    let ys = (loose t).tokens in
+    let sign = sign_token (codes "<") in
+    let dx : (loose s).depth ≤ suc d = omega (arith, le) in
+    let dy : (loose t).depth ≤ suc d = omega (arith, le) in
+    rw (append_assoc xs (sign ∷ ys) rest)
+      (comparison_first d (xs ++ (sign ∷ (ys ++ rest))) (x.facts.no_has (sign ∷ (ys ++ rest)) (less_ends (ys ++ rest)).stops.call) (x.facts.no_ok (sign ∷ (ys ++ rest)) (less_ends (ys ++ rest)).stops.call)
+        ∙ less_read_of d a b xs ys rest (chain_sum (loose s) m a x d dx (sign ∷ (ys ++ rest)) (less_ends (ys ++ rest))) (chain_sum (loose t) n b y d dy rest ends))
+
+pub has_read : (p : Bytes) → IsConditionRead (condition_written (Cond-F.Has p)) (cond.Has p)
+unfolding condition comes_call comes has taken enclosed spelled
+has_read p d le rest ends = refl
+
+pub is_ok_read : (p : Bytes) → IsConditionRead (condition_written (Cond-F.IsOk p)) (cond.IsOk p)
+unfolding condition comes_call comes is_ok taken enclosed spelled
+is_ok_read p d le rest ends = refl
+
+then_ends : (rest : List Lexeme) → Ends (word_token (codes "then") ∷ rest)
+unfolding comes
+then_ends rest = record { stops = record { call = refl; field = refl }; sum = refl }
+
+else_ends : (rest : List Lexeme) → Ends (word_token (codes "else") ∷ rest)
+unfolding comes
+else_ends rest = record { stops = record { call = refl; field = refl }; sum = refl }
+
+choice_of : (d : ℕ) (c : Cond) (a b : Expr) (cs xs ys rest : List Lexeme) → condition (expression_within d) (cs ++ (word_token (codes "then") ∷ (xs ++ (word_token (codes "else") ∷ (ys ++ rest))))) ≡ Some (c, word_token (codes "then") ∷ (xs ++ (word_token (codes "else") ∷ (ys ++ rest)))) → expression_within d (xs ++ (word_token (codes "else") ∷ (ys ++ rest))) ≡ Some (a, word_token (codes "else") ∷ (ys ++ rest)) → expression_within d (ys ++ rest) ≡ Some (b, rest) → expression_within (suc d) (word_token (codes "if") ∷ (cs ++ (word_token (codes "then") ∷ (xs ++ (word_token (codes "else") ∷ (ys ++ rest)))))) ≡ Some (expr.If c a b, rest)
+unfolding expression_within whole choice taken comes
+choice_of d c a b cs xs ys rest first second third = rw (first, second, third) refl
+
+if_apart : (w : WrittenCondition) (xs ys rest : List Lexeme) → if_tokens w xs ys ++ rest ≡ word_token (codes "if") ∷ (w.tokens ++ (word_token (codes "then") ∷ (xs ++ (word_token (codes "else") ∷ (ys ++ rest)))))
+if_apart w xs ys rest = rw (append_assoc w.tokens (word_token (codes "then") ∷ (xs ++ (word_token (codes "else") ∷ ys))) rest, append_assoc xs (word_token (codes "else") ∷ ys) rest) refl
+
+if_whole : (w : WrittenCondition) (s t : Written) (m n : ℕ) (c : Cond) (a b : Expr) → IsConditionRead w c → IsRead s m a → IsRead t n b → (d : ℕ) → suc (max w.depth (max s.depth t.depth)) ≤ d → (rest : List Lexeme) → Ends rest → expression_within d (if_tokens w s.tokens t.tokens ++ rest) ≡ Some (expr.If c a b, rest)
+if_whole w s t m n c a b rc rs rt zero le rest ends = absurd (omega (arith, le))
+if_whole w s t m n c a b rc rs rt (suc d) le rest ends =
+    let dc : w.depth ≤ suc d = omega (arith, le) in
+    let dx : s.depth ≤ d = omega (arith, le) in
+    let dy : t.depth ≤ d = omega (arith, le) in
+    let later : List Lexeme = word_token (codes "else") ∷ (t.tokens ++ rest) in
+    rw (if_apart w s.tokens t.tokens rest)
+      (choice_of d c a b w.tokens s.tokens t.tokens rest
+        (rc d dc (word_token (codes "then") ∷ (s.tokens ++ later)) (then_ends (s.tokens ++ later)))
+        (reads_whole s m a rs d dx later (else_ends (t.tokens ++ rest)))
+        (reads_whole t n b rt d dy rest ends))
+
+pub if_read : (w : WrittenCondition) (s t : Written) (k m n : ℕ) (c : Cond) (a b : Expr) → IsConditionRead w c → IsRead s m a → IsRead t n b → suc (max k (max m n)) ≤ nesting_limit → IsRead (expression_written (Expr-F.If w s t)) (suc (max k (max m n))) (expr.If c a b)
+unfolding comes comes_call
+if_read w s t k m n c a b rc rs rt within = record {
+  facts = record {
+    some = omega arith;
+    fields = omega arith;
+    added = omega arith;
+    within = within;
+    no_close = λ rest. refl;
+    no_has = λ rest call. refl;
+    no_ok = λ rest call. refl;
+  };
+  choice = λ level. absurd (level refl);
+  alone = λ level. refl;
+  at = if_whole w s t m n c a b rc rs rt;
+}

@@ -17,3 +17,4 @@ pub mod WrittenEquations
 pub mod SpaceLemmas
 pub mod TypesBack
 pub mod ExpressionsBack
+pub mod ListsBack
