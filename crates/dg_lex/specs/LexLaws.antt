@@ -47,8 +47,8 @@ pub record IsBadPlace (line : Bytes) (at : ℕ) : Type 0 where
   pub no_space : (slice_index line at == 32) ≡ false
   pub no_token : kind_of (take (extent (drop at line)) (drop at line)) ≡ None
 
-abbrev pub BadPlaces : Type 0
-BadPlaces = (line : Bytes) (at : ℕ) → tokens_of line ≡ Err at → IsBadPlace line at
+abbrev pub NoTokenBegins : Type 0
+NoTokenBegins = (line : Bytes) (at : ℕ) → tokens_of line ≡ Err at → IsBadPlace line at
 
 -- Of each text, the text in quotes has it as its value, and is a token where its bytes are plain; and each text token is
 -- its value in quotes. So texts are printed as they were written.

@@ -1,6 +1,6 @@
 //! What holds of the tokens of every line, and of every text in quotes.
 
-ghost use Rattle.dg_lex.specs.LexLaws.{NoLongerToken, TokensLieInOrder, BadPlaces, AreQuoted, AreDecimals};
+ghost use Rattle.dg_lex.specs.LexLaws.{NoLongerToken, TokensLieInOrder, NoTokenBegins, AreQuoted, AreDecimals};
 
 /// A token is as long as it can be: no longer front of the bytes that begin there is a token of any kind.
 pub fn no_longer_token()
@@ -15,8 +15,8 @@ pub fn tokens_lie_in_order()
 {}
 
 /// Where a line has no tokens, the byte that is named is something other than a space, at which no token begins.
-pub fn bad_places()
-    ensures exact { BadPlaces }
+pub fn no_token_begins()
+    ensures exact { NoTokenBegins }
 {}
 
 /// The value of a text in quotes is that text, and a text token is its value in quotes, so texts are printed as they were

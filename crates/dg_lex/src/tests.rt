@@ -1,6 +1,6 @@
 use crate::token::TokenKind::{AtName, Integer, Name, Sign, Text, Word};
 use crate::{
-    LexFault, Token, TokenKind, bad_places, decimal_integers, no_longer_token, quoted_texts,
+    LexFault, Token, TokenKind, decimal_integers, no_longer_token, no_token_begins, quoted_texts,
     spelling, tokens, tokens_lie_in_order, value_of_integer, value_of_text,
 };
 use std::test::Fail;
@@ -147,7 +147,7 @@ fn texts_have_these_values(rt: HostRuntime) -> Result<(), Fail> {
 fn the_laws_are_calls(_rt: HostRuntime) {
     no_longer_token();
     tokens_lie_in_order();
-    bad_places();
+    no_token_begins();
     quoted_texts();
     decimal_integers();
 }
