@@ -42,13 +42,13 @@ TokensLieInOrder = (line : Bytes) (ts : List Token) → tokens_of line ≡ Ok ts
 
 -- A byte of a line at which no token begins: something other than a space stands there, and what a token there would
 -- take is none.
-pub record IsBadPlace (line : Bytes) (at : ℕ) : Type 0 where
+pub record NoTokenAt (line : Bytes) (at : ℕ) : Type 0 where
   pub within : at < length line
   pub no_space : (slice_index line at == 32) ≡ false
   pub no_token : kind_of (take (extent (drop at line)) (drop at line)) ≡ None
 
 abbrev pub NoTokenBegins : Type 0
-NoTokenBegins = (line : Bytes) (at : ℕ) → tokens_of line ≡ Err at → IsBadPlace line at
+NoTokenBegins = (line : Bytes) (at : ℕ) → tokens_of line ≡ Err at → NoTokenAt line at
 
 -- Of each text, the text in quotes has it as its value, and is a token where its bytes are plain; and each text token is
 -- its value in quotes. So texts are printed as they were written.
