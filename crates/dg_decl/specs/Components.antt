@@ -1,5 +1,5 @@
--- The component classes of a document by number, and what each holds. Hilt's are the first, and then
--- come those that the document declares, in order.
+-- The component classes of a document by number, and what each holds. Hilt's are the first, and
+-- then come those that the document declares, in order.
 use Rattle.std.specs.Prelude.{◌≡◌, ◌↔◌, IsTrue, ℕ, zero, suc, ◌+◌, ◌-◌, ◌==◌, nat_lt, nat_eq, Bool, true, false, not, ◌&&◌, if◌then◌else◌, List, [], ◌∷◌, ◌++◌, length, map, reverse, Option, Some, None, option_map, option_and_then, option_to_list, unwrap_or, slice_get, Contains}
 use Rattle.std.specs.Option.{option_or}
 use Rattle.std.specs.Str.{bytes_eq}

@@ -191,8 +191,8 @@ explicit_at doc c k s =
     (if is_header_of doc c s then explicit_exposed doc c k else [])
     ++ explicit_argument doc c k s ++ explicit_member doc c k s
 
--- the explicit bindings of a key in a class: Hilt's default binding, and then the others in order of
--- lines
+-- the explicit bindings of a key in a class: Hilt's default binding, and then the others in order
+-- of lines
 unfoldable pub explicit : Doc → ℕ → Key → List Owned
 explicit doc c k = explicit_default doc c k ++ flat_map (explicit_at doc c k) (statements doc)
 
@@ -270,8 +270,8 @@ abbrev pub injected_scope : Item → Option (Option Bytes)
 injected_scope (item.Class true scope n params interfaces) = Some scope
 injected_scope other = None
 
--- A class of this item with `@Inject`, as a component class finds it: its own where it has no scope,
--- and else that of the nearest class of the chain that carries the scope.
+-- A class of this item with `@Inject`, as a component class finds it: its own where it has no
+-- scope, and else that of the nearest class of the chain that carries the scope.
 abbrev pub injected_with : Doc → ℕ → ℕ → Option Bytes → Found
 injected_with doc c i None = found.One c (ref.ClassItem i)
 injected_with doc c i (Some scope) = carried_by (find_first (carries doc scope) (chain doc c))
