@@ -30,7 +30,7 @@ pub struct Bind {
 }
 
 /// What binds a key.
-#[derive(Clone, Copy)]
+#[derive(Clone, Copy, PartialEq, Eq, Hash)]
 pub enum BindRef {
     /// The module member of this index.
     Member(u32),

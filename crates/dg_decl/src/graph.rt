@@ -3,7 +3,7 @@ use dg_types::Key;
 use sqlite_items::Items;
 
 /// What stands at a node of the graph.
-#[derive(Drop)]
+#[derive(Drop, PartialEq, Eq, Hash)]
 pub enum NodeKind {
     /// A binding.
     Bound(BindRef),
@@ -16,7 +16,7 @@ pub enum NodeKind {
 }
 
 /// A node of the graph: what stands there, and the number of the component class that owns it.
-#[derive(Drop)]
+#[derive(Drop, PartialEq, Eq, Hash)]
 pub struct Node {
     pub class: u32,
     pub kind: NodeKind,

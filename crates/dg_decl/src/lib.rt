@@ -5,6 +5,7 @@
 mod binding;
 mod component;
 mod components_laws;
+mod copy;
 mod document;
 mod expression;
 mod graph;
