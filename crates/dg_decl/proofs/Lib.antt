@@ -10,3 +10,7 @@ pub mod HeaderLemmas
 pub mod NodeWalks
 pub mod NodeEquality
 pub mod ExampleShop
+pub mod MemberLemmas
+pub mod AskedForms
+pub mod NodeCandidates
+pub mod NodeTargets

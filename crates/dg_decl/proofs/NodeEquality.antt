@@ -1,6 +1,6 @@
 -- The test of equality of nodes tells whether two nodes are one.
 use Rattle.std.proofs.Common.{◌≡◌, ◌↔◌, ℕ, Bool, true, false, ◌&&◌, nat_eq, refl, sym, ap, ◌∙◌}
-use Rattle.std.proofs.lemmas.Bool.{false≢true, and-true-1, and-true-2, eqb-true, eq-eqb}
+use Rattle.std.proofs.lemmas.Bool.{false≢true, eqb-true, eq-eqb}
 use Rattle.dg_types.specs.declared.key.Key.{Key}
 use Rattle.dg_types.specs.Equality.{same_key}
 use Rattle.dg_types.proofs.EqualityLemmas.{key_decides}
@@ -12,11 +12,11 @@ use Rattle.dg_decl.specs.declared.graph.NodeKind.TheVariants as node
 use Rattle.dg_decl.specs.Graph.{same_binding, same_node_kind, same_node}
 use Rattle.dg_decl.proofs.NodeWalks.{Decides}
 
-first_so : (a b : Bool) → (a && b) ≡ true → a ≡ true
+pub first_so : (a b : Bool) → (a && b) ≡ true → a ≡ true
 first_so true b h = refl
 first_so false b h = h
 
-second_so : (a b : Bool) → (a && b) ≡ true → b ≡ true
+pub second_so : (a b : Bool) → (a && b) ≡ true → b ≡ true
 second_so true b h = h
 second_so false b h = absurd (false≢true h)
 

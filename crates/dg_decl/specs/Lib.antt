@@ -10,3 +10,4 @@ pub mod Graph
 pub mod Sizes
 pub mod Typing
 pub mod Diagnostics
+pub mod GraphLaws

@@ -8,6 +8,7 @@ mod components_laws;
 mod document;
 mod expression;
 mod graph;
+mod graph_laws;
 mod item;
 mod violation;
 
@@ -20,5 +21,6 @@ pub use components_laws::{
 pub use document::{Doc, LineMeaning};
 pub use expression::{CallName, Cond, Expr, ParamCall, Tree};
 pub use graph::{BindGraph, Edge, EdgeKind, Node, NodeKind};
+pub use graph_laws::targets_are_candidates;
 pub use item::{AskStep, Item, Mark, OpenArg, Param};
 pub use violation::{Rule, Violation};
