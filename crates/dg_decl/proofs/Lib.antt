@@ -14,3 +14,4 @@ pub mod MemberLemmas
 pub mod AskedForms
 pub mod NodeCandidates
 pub mod NodeTargets
+pub mod GraphLemmas

@@ -345,12 +345,14 @@ abbrev pub is_called_mode : Mode → Bool
 is_called_mode mode.ProviderLazy = false
 is_called_mode other = true
 
+-- the edge of a call of the parameter at a place
+abbrev pub called_at : List Dependency → ℕ → Option EdgeTo
+called_at ds k =
+    option_and_then (λ d. if is_called_mode d.mode then edge_to edge.Called (suc k) d else None) (slice_get ds k)
+
 -- the edge of a call of a parameter in the body
 abbrev pub called_edge : List Dependency → Bytes → Option EdgeTo
-called_edge ds name = option_and_then called (position (is_param name) ds)
-  where
-    called : ℕ → Option EdgeTo
-    called k = option_and_then (λ d. if is_called_mode d.mode then edge_to edge.Called (suc k) d else None) (slice_get ds k)
+called_edge ds name = option_and_then (called_at ds) (position (is_param name) ds)
 
 abbrev pub calls_of : Doc → Node → List Bytes
 calls_of doc n = of_kind n.kind

@@ -6,7 +6,8 @@ use Rattle.dg_decl.specs.declared.document.Doc.{Doc}
 use Rattle.dg_decl.specs.declared.binding.Bind.{Bind}
 use Rattle.dg_decl.specs.declared.graph.Node.{Node}
 use Rattle.dg_decl.specs.Lookup.{bindings, is_contribution, is_declaration}
-use Rattle.dg_decl.specs.Graph.{targets, entry_nodes, candidates}
+use Rattle.dg_decl.specs.Graph.{targets, entry_nodes, candidates, nodes, IsReachable, OnCycle, is_on_cycle, OnCall, is_on_call}
+use Rattle.dg_decl.specs.Sizes.{IsProduction, is_production}
 
 abbrev pub is_optional_type : Core → Bool
 is_optional_type (core.Optional b i) = true
@@ -24,3 +25,20 @@ TargetsAreCandidates =
     (doc : Doc) → OptionalsAreNoGroups doc
     → ((n : Node) → Contains (entry_nodes doc) n → Contains (candidates doc) n)
     × ((m n : Node) → Contains (candidates doc) m → Contains (targets doc m) n → Contains (candidates doc) n)
+
+-- the nodes of a document are those that are reached from its entry points
+abbrev pub NodesAreTheReachableOnes : Type 0
+NodesAreTheReachableOnes =
+    (doc : Doc) → OptionalsAreNoGroups doc → (n : Node) → Contains (nodes doc) n ↔ IsReachable doc n
+
+-- of a node, no walk of direct or called edges is too long to be found
+abbrev pub CyclesByShortWalks : Type 0
+CyclesByShortWalks =
+    (doc : Doc) → OptionalsAreNoGroups doc → (n : Node) → Contains (nodes doc) n
+    → (IsTrue (is_on_cycle doc n) ↔ OnCycle doc n) × (IsTrue (is_on_call doc n) ↔ OnCall doc n)
+
+-- and none over which a production is passed on
+abbrev pub ProductionsByShortWalks : Type 0
+ProductionsByShortWalks =
+    (doc : Doc) → OptionalsAreNoGroups doc → (n : Node) → Contains (nodes doc) n
+    → IsTrue (is_production doc n) ↔ IsProduction doc n
