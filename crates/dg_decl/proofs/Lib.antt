@@ -15,3 +15,4 @@ pub mod AskedForms
 pub mod NodeCandidates
 pub mod NodeTargets
 pub mod GraphLemmas
+pub mod SizeLemmas

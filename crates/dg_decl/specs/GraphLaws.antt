@@ -1,13 +1,14 @@
 -- The laws of the graph of a document.
-use Rattle.std.specs.Prelude.{◌≡◌, ◌↔◌, IsTrue, Bool, true, false, ◌||◌, Contains}
+use Rattle.std.specs.Prelude.{◌≡◌, ◌↔◌, ℕ, IsTrue, Bool, true, false, ◌||◌, Contains}
 use Rattle.dg_types.specs.declared.key.Core.{Core}
 use Rattle.dg_types.specs.declared.key.Core.TheVariants as core
 use Rattle.dg_decl.specs.declared.document.Doc.{Doc}
 use Rattle.dg_decl.specs.declared.binding.Bind.{Bind}
 use Rattle.dg_decl.specs.declared.graph.Node.{Node}
 use Rattle.dg_decl.specs.Lookup.{bindings, is_contribution, is_declaration}
-use Rattle.dg_decl.specs.Graph.{targets, entry_nodes, candidates, nodes, IsReachable, OnCycle, is_on_cycle, OnCall, is_on_call}
-use Rattle.dg_decl.specs.Sizes.{IsProduction, is_production}
+use Rattle.dg_decl.specs.Graph.{targets, entry_nodes, candidates, nodes, IsReachable, OnCycle, is_on_cycle, OnCall, is_on_call, needed_targets}
+use Rattle.dg_decl.specs.Sizes.{IsProduction, is_production, IsDepth, depth, size, is_shared, weight}
+use Rattle.dg_num.specs.Weights.{AddsUp}
 
 abbrev pub is_optional_type : Core → Bool
 is_optional_type (core.Optional b i) = true
@@ -42,3 +43,23 @@ abbrev pub ProductionsByShortWalks : Type 0
 ProductionsByShortWalks =
     (doc : Doc) → OptionalsAreNoGroups doc → (n : Node) → Contains (nodes doc) n
     → IsTrue (is_production doc n) ↔ IsProduction doc n
+
+-- no node lies on a closed walk of direct edges, nor on one of direct and called edges with a called one
+abbrev pub HasNoCycle : Doc → Type 0
+HasNoCycle doc = (n : Node) → Contains (nodes doc) n → (OnCycle doc n → ⊥) × (OnCall doc n → ⊥)
+
+-- without cycles the depth of a node is the number of nodes on its longest walk
+abbrev pub DepthsAreLongestWalks : Type 0
+DepthsAreLongestWalks =
+    (doc : Doc) → OptionalsAreNoGroups doc → HasNoCycle doc → (n : Node) → Contains (nodes doc) n
+    → IsDepth doc n (depth doc n)
+
+-- each weight is the size of the node and what its edges add, and no other numbers are
+pub record AreWeights (doc : Doc) (weights : Node → ℕ) : Type 0 where
+  pub add_up : AddsUp (Contains (nodes doc)) (needed_targets doc) (size doc) (is_shared doc) weights
+  pub only : (other : Node → ℕ) → AddsUp (Contains (nodes doc)) (needed_targets doc) (size doc) (is_shared doc) other
+      → (n : Node) → Contains (nodes doc) n → other n ≡ weights n
+
+-- without cycles the weights add up
+abbrev pub WeightsAddUp : Type 0
+WeightsAddUp = (doc : Doc) → OptionalsAreNoGroups doc → HasNoCycle doc → AreWeights doc (weight doc)
