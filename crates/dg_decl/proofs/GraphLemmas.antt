@@ -16,7 +16,7 @@ use Rattle.dg_decl.specs.declared.graph.EdgeKind.TheVariants as edge
 use Rattle.dg_decl.specs.Walks.{IsReached, root, step, is_within}
 use Rattle.dg_decl.specs.Graph.{same_node, node_of, Dependency, deps, target, targets, entry_nodes, IsReachable, candidates, is_reachable, nodes, EdgeTo, edge_kind, edge_to, needed_edges, is_param, is_called_mode, called_at, called_edge, calls_of, edges, inner_of, targets_by, is_direct, is_called, direct_targets, called_targets, needed_targets, OnCycle, OnCall, is_on_cycle, is_on_call}
 use Rattle.dg_decl.specs.Sizes.{is_producer, is_unscoped_binds, item_of_node, is_provider_form, passed_on, IsProduction, is_production}
-use Rattle.dg_decl.specs.GraphLaws.{OptionalsAreNoGroups, NodesAreTheReachableOnes, CyclesByShortWalks, ProductionsByShortWalks}
+use Rattle.dg_decl.specs.GraphLaws.{OptionalsAreNoGroups, CyclesByShortWalks, ProductionsByShortWalks}
 use Rattle.dg_decl.proofs.NodeWalks.{LeadsInto, AreIn, any_found, any_from, reached_in, walks_among}
 use Rattle.dg_decl.proofs.NodeEquality.{first_so, second_so, both_so, node_decides}
 use Rattle.dg_decl.proofs.MemberLemmas.{none_in, in_front, the_one, out_map, in_filter, out_filter, in_filter_map, out_filter_map, out_option_map, out_and_then, out_if, in_got, out_enumerate}
@@ -31,9 +31,9 @@ reachable_by_short_walks doc plain n =
     walks_among same_node node_decides (targets doc) (candidates doc) (entry_nodes doc)
     (λ m o c h. targets_are doc plain m o c h) (λ m c. entries_are doc m c) n
 
-pub nodes_are_the_reachable_ones : NodesAreTheReachableOnes
+pub reached_nodes : (doc : Doc) → OptionalsAreNoGroups doc → (n : Node) → Contains (nodes doc) n ↔ IsReachable doc n
 unfolding nodes
-nodes_are_the_reachable_ones doc plain n =
+reached_nodes doc plain n =
     (λ c. (reachable_by_short_walks doc plain n).0 (out_filter (is_reachable doc) (candidates doc) n c).1,
      λ w. in_filter (is_reachable doc) (candidates doc) n
           (reached_in (targets doc) (candidates doc) (entry_nodes doc) (λ m o c h. targets_are doc plain m o c h) (λ m c. entries_are doc m c) n w)
@@ -46,7 +46,7 @@ node_is_candidate doc n c = (out_filter (is_reachable doc) (candidates doc) n c)
 -- what a node needs is a node
 pub target_is_node : (doc : Doc) → OptionalsAreNoGroups doc → (m n : Node) → Contains (nodes doc) m → Contains (targets doc m) n → Contains (nodes doc) n
 target_is_node doc plain m n c h =
-    (nodes_are_the_reachable_ones doc plain n).1 (step m n ((nodes_are_the_reachable_ones doc plain m).0 c) h)
+    (reached_nodes doc plain n).1 (step m n ((reached_nodes doc plain m).0 c) h)
 
 -- ---- edges lead where dependencies lead
 

@@ -16,3 +16,5 @@ pub mod NodeCandidates
 pub mod NodeTargets
 pub mod GraphLemmas
 pub mod SizeLemmas
+pub mod OnceLemmas
+pub mod NodesOnce

@@ -86,6 +86,13 @@ binds_as doc s b c e =
       same_kind = ap (λ (b : Bind). b.kind) key.2;
     }
 
+pub binding_item : (doc : Doc) (s : Statement) (b : Bind) → Contains (statements doc) s → binding_of s ≡ Some b → s.index ≡ b.item
+binding_item doc s b c e =
+    let block = out_and_then (binding_in s) s.block b e in
+    let role = out_and_then _ (role_of s.item) b block.2 in
+    let key = out_option_map _ (key_of_role role.0) b role.2 in
+    ap (λ (b : Bind). b.item) key.2
+
 pub stands_as : (doc : Doc) (b : Bind) → Contains (bindings doc) b → BindsAs doc b
 unfolding bindings
 stands_as doc b c =

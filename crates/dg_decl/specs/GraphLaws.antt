@@ -6,7 +6,7 @@ use Rattle.dg_decl.specs.declared.document.Doc.{Doc}
 use Rattle.dg_decl.specs.declared.binding.Bind.{Bind}
 use Rattle.dg_decl.specs.declared.graph.Node.{Node}
 use Rattle.dg_decl.specs.Lookup.{bindings, is_contribution, is_declaration}
-use Rattle.dg_decl.specs.Graph.{targets, entry_nodes, candidates, nodes, IsReachable, OnCycle, is_on_cycle, OnCall, is_on_call, needed_targets}
+use Rattle.dg_decl.specs.Graph.{targets, entry_nodes, candidates, nodes, AreNodes, OnCycle, is_on_cycle, OnCall, is_on_call, needed_targets}
 use Rattle.dg_decl.specs.Sizes.{IsProduction, is_production, IsDepth, depth, size, is_shared, weight}
 use Rattle.dg_num.specs.Weights.{AddsUp}
 
@@ -27,10 +27,9 @@ TargetsAreCandidates =
     → ((n : Node) → Contains (entry_nodes doc) n → Contains (candidates doc) n)
     × ((m n : Node) → Contains (candidates doc) m → Contains (targets doc m) n → Contains (candidates doc) n)
 
--- the nodes of a document are those that are reached from its entry points
+-- the nodes of a document are those that are reached from its entry points, each once
 abbrev pub NodesAreTheReachableOnes : Type 0
-NodesAreTheReachableOnes =
-    (doc : Doc) → OptionalsAreNoGroups doc → (n : Node) → Contains (nodes doc) n ↔ IsReachable doc n
+NodesAreTheReachableOnes = (doc : Doc) → OptionalsAreNoGroups doc → AreNodes doc (nodes doc)
 
 -- of a node, no walk of direct or called edges is too long to be found
 abbrev pub CyclesByShortWalks : Type 0

@@ -9,7 +9,8 @@ pub fn targets_are_candidates()
     ensures exact { TargetsAreCandidates }
 {}
 
-/// The nodes of a document are exactly those that are reached from its entry points, over walks of any length.
+/// The nodes of a document are exactly those that are reached from its entry points, over walks of any length, and each
+/// is listed once.
 pub fn nodes_are_the_reachable_ones()
     ensures exact { NodesAreTheReachableOnes }
 {}
