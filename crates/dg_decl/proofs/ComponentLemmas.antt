@@ -75,7 +75,7 @@ hilt_below : (doc : Doc) (n : ℕ) → n < hilt_count → n < class_count doc
 unfolding class_count
 hilt_below doc n lt = omega arith
 
-class_below : (doc : Doc) (name : Bytes) (n : ℕ) → class_named doc name ≡ Some n
+pub class_below : (doc : Doc) (name : Bytes) (n : ℕ) → class_named doc name ≡ Some n
     → n < class_count doc
 unfolding class_named
 class_below doc name n e =

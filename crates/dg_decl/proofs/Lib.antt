@@ -18,3 +18,11 @@ pub mod SpaceLemmas
 pub mod TypesBack
 pub mod ExpressionsBack
 pub mod ListsBack
+pub mod MemberLemmas
+pub mod AskedForms
+pub mod NodeCandidates
+pub mod NodeTargets
+pub mod GraphLemmas
+pub mod SizeLemmas
+pub mod OnceLemmas
+pub mod NodesOnce

@@ -175,19 +175,20 @@ inner_of (core.Set b i) = i
 inner_of (core.Map k b i) = i
 inner_of (core.Optional b i) = i
 
+-- a contribution to a set or map that a class sees
+abbrev pub contribution_of : ℕ → Key → Owned → Dependency
+contribution_of class key o =
+    record {
+      param = None;
+      mode = mode_of_inner (inner_of key.core);
+      key = key;
+      class = class;
+      found = found.One o.owner o.binding;
+    }
+
 -- the contributions to a set or map, in order
 abbrev pub of_contributions : Doc → ℕ → Key → List Dependency
-of_contributions doc class key = map contribution (contributions doc class key)
-  where
-    contribution : Owned → Dependency
-    contribution o =
-        record {
-          param = None;
-          mode = mode_of_inner (inner_of key.core);
-          key = key;
-          class = class;
-          found = found.One o.owner o.binding;
-        }
+of_contributions doc class key = map (contribution_of class key) (contributions doc class key)
 
 abbrev pub is_nothing : Found → Bool
 is_nothing found.Nothing = true
@@ -297,21 +298,21 @@ first_statement doc class k =
     option_map (λ b. b.item)
     (slice_get (flat_map (λ o. filter (opens_in doc k o) (bindings doc)) (root_first doc class)) 0)
 
--- the sets, maps and optionals of which a statement is the first contribution or declaration, in
--- each of their forms
-abbrev pub own_groups : Doc → ℕ → Statement → List NodeKind
-own_groups doc class s = flat_map groups (filter (λ b. b.item == s.index) (bindings doc))
-  where
-    first_here : Key → Bool
-    first_here k = option_map_or (λ i. i == s.index) (first_statement doc class k) false
+-- a set, map or optional stands on a statement
+abbrev pub stands_first : Doc → ℕ → Statement → Key → Bool
+stands_first doc class s k = option_map_or (λ i. i == s.index) (first_statement doc class k) false
 
-    groups : Bind → List NodeKind
-    groups b = of_kind b.kind b.key
-      where
-        of_kind : BindKind → Key → List NodeKind
-        of_kind kind.Explicit k = []
-        of_kind kind.OptionalOf k = map node.Opt (filter first_here (optional_forms k))
-        of_kind other k = map node.Multi (filter first_here (forms_of k))
+-- the sets, maps and optionals of which a binding of this kind and key on a statement is the first contribution or
+-- declaration
+abbrev pub groups_of : Doc → ℕ → Statement → BindKind → Key → List NodeKind
+groups_of doc class s kind.Explicit k = []
+groups_of doc class s kind.OptionalOf k = map node.Opt (filter (stands_first doc class s) (optional_forms k))
+groups_of doc class s other k = map node.Multi (filter (stands_first doc class s) (forms_of k))
+
+-- the sets, maps and optionals of which a statement is the first contribution or declaration, in each of their forms
+abbrev pub own_groups : Doc → ℕ → Statement → List NodeKind
+own_groups doc class s =
+    flat_map (λ b. groups_of doc class s b.kind b.key) (filter (λ b. b.item == s.index) (bindings doc))
 
 -- what may stand on a statement in a class, in order: its binding, then sets, maps and optionals
 abbrev pub kinds_at : Doc → ℕ → Statement → List NodeKind
@@ -376,14 +377,14 @@ abbrev pub is_called_mode : Mode → Bool
 is_called_mode mode.ProviderLazy = false
 is_called_mode other = true
 
+-- the edge of a call of the parameter at a place
+abbrev pub called_at : List Dependency → ℕ → Option EdgeTo
+called_at ds k =
+    option_and_then (λ d. if is_called_mode d.mode then edge_to edge.Called (suc k) d else None) (slice_get ds k)
+
 -- the edge of a call of a parameter in the body
 abbrev pub called_edge : List Dependency → Bytes → Option EdgeTo
-called_edge ds name = option_and_then called (position (is_param name) ds)
-  where
-    called : ℕ → Option EdgeTo
-    called k =
-        option_and_then (λ d. if is_called_mode d.mode then edge_to edge.Called (suc k) d else None)
-        (slice_get ds k)
+called_edge ds name = option_and_then (called_at ds) (position (is_param name) ds)
 
 abbrev pub calls_of : Doc → Node → List Bytes
 calls_of doc n = of_kind n.kind

@@ -21,3 +21,4 @@ pub mod Graph
 pub mod Sizes
 pub mod Typing
 pub mod Diagnostics
+pub mod GraphLaws

@@ -9,6 +9,7 @@ mod copy;
 mod document;
 mod expression;
 mod graph;
+mod graph_laws;
 mod item;
 mod reading;
 mod violation;
@@ -22,6 +23,10 @@ pub use components_laws::{
 pub use document::{Doc, LineMeaning};
 pub use expression::{CallName, Cond, Expr, ParamCall, Tree};
 pub use graph::{BindGraph, Edge, EdgeKind, Node, NodeKind};
+pub use graph_laws::{
+    cycles_by_short_walks, depths_are_longest_walks, nodes_are_the_reachable_ones,
+    productions_by_short_walks, targets_are_candidates, weights_add_up,
+};
 pub use item::{AskStep, Item, Mark, OpenArg, Param};
 pub use reading::{lines_and_rest, one_reading};
 pub use violation::{Rule, Violation};
