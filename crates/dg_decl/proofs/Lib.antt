@@ -6,3 +6,4 @@ pub mod SpaceLemmas
 pub mod TypesBack
 pub mod ExpressionsBack
 pub mod ListsBack
+pub mod AllBack
