@@ -7,3 +7,4 @@ pub mod TypesBack
 pub mod ExpressionsBack
 pub mod ListsBack
 pub mod AllBack
+pub mod DepthLemmas
