@@ -8,3 +8,4 @@ pub mod ExpressionsBack
 pub mod ListsBack
 pub mod AllBack
 pub mod DepthLemmas
+pub mod TreesBack

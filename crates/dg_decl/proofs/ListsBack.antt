@@ -128,7 +128,7 @@ unfolding comes comes_call
 object_read c es n all short within =
     atom_read (word_token (codes "new") ∷ (name_token c ∷ list_tokens (map written es))) (suc (list_depth (map written es))) (suc n) (is_name c && list_fits (map written es)) (expr.New c es)
       record { some = omega arith; fields = omega arith; added = omega arith; within = within; no_close = λ rest. refl; no_has = λ rest call. refl; no_ok = λ rest call. refl }
-      (λ rest. refl)
+      (λ rest. (refl, refl))
       (λ d le rest call. object_atom d c es (list_tokens (map written es)) rest (list_back d es rest all (part_depths d es le) short))
 
 cat_atom : (d : ℕ) (es : List Expr) (tokens rest : List Lexeme) → some_in_parentheses (expression_within d) (in_parens tokens ++ rest) ≡ Some (es, rest) → atom (expression_within d) (name_token (codes "cat") ∷ (in_parens tokens ++ rest)) ≡ Some (expr.Call call.Cat es, rest)
@@ -197,7 +197,7 @@ unfolding comes
 call_read f es n all short count within =
     atom_read (name_token (call_name f) ∷ list_tokens (map written es)) (suc (list_depth (map written es))) (suc n) (list_fits (map written es) && count_fits f (length (map written es))) (expr.Call f es)
       record { some = omega arith; fields = omega arith; added = omega arith; within = within; no_close = λ rest. refl; no_has = λ rest call. no_has_call f (list_tokens (map written es) ++ rest); no_ok = λ rest call. no_ok_call f (list_tokens (map written es) ++ rest) }
-      (λ rest. refl)
+      (λ rest. (refl, refl))
       (λ d le rest call. call_atom f d es rest count all (part_depths d es le) short)
 
 by_name_atom : (f : ParamCall) (d : ℕ) (p : Bytes) (rest : List Lexeme) → atom (expression_within d) (name_token (param_call_name f) ∷ (in_parens (name_token p ∷ []) ++ rest)) ≡ Some (expr.ByName f p, rest)
@@ -226,7 +226,7 @@ unfolding comes
 by_name_read f p =
     atom_read (name_token (param_call_name f) ∷ in_parens (name_token p ∷ [])) 1 1 (is_name p) (expr.ByName f p)
       record { some = omega arith; fields = omega arith; added = omega arith; within = within_one; no_close = λ rest. refl; no_has = λ rest call. no_has_by_name f (in_parens (name_token p ∷ []) ++ rest); no_ok = λ rest call. no_ok_by_name f (in_parens (name_token p ∷ []) ++ rest) }
-      (λ rest. refl)
+      (λ rest. (refl, refl))
       (λ d le rest call. by_name_atom f d p rest)
 
 or_else_atom : (d : ℕ) (p : Bytes) (e : Expr) (tokens rest : List Lexeme) → expression_within d (tokens ++ (close_paren ∷ rest)) ≡ Some (e, close_paren ∷ rest) → atom (expression_within d) (name_token (codes "orElse") ∷ (in_parens (name_token p ∷ (comma ∷ tokens)) ++ rest)) ≡ Some (expr.OrElse p e, rest)
@@ -238,5 +238,5 @@ unfolding comes comes_call
 or_else_read p s n e r within =
     atom_read (name_token (codes "orElse") ∷ in_parens (name_token p ∷ (comma ∷ s.tokens))) (suc s.depth) (suc n) (is_name p && s.fits) (expr.OrElse p e)
       record { some = omega arith; fields = omega arith; added = omega arith; within = within; no_close = λ rest. refl; no_has = λ rest call. refl; no_ok = λ rest call. refl }
-      (λ rest. refl)
+      (λ rest. (refl, refl))
       (λ d le rest call. (let below : s.depth ≤ d = omega (arith, le) in or_else_atom d p e s.tokens rest (reads_whole s n e r d below (close_paren ∷ rest) (close_ends rest))))
