@@ -1,10 +1,10 @@
 -- Every expression and condition that fits is read back.
-use Rattle.std.proofs.Common.{ℕ, suc, ◌≡◌, ◌≤◌, Bool, true, ◌&&◌, List, [], ◌∷◌, length, map, max, sym, subst, arith}
+use Rattle.std.proofs.Common.{suc, ◌≡◌, ◌≤◌, true, ◌&&◌, List, [], ◌∷◌, length, map, max, sym, subst, arith}
 use Rattle.std.specs.Prelude.{nat_le, ℤ}
 use Rattle.std.specs.List.{list_all}
 use Rattle.std.proofs.lemmas.Bool.{and_parts, leb-true}
 use Rattle.std.proofs.lemmas.List.{length-map}
-use Rattle.dg_lex.specs.Bytes.{Bytes, is_plain}
+use Rattle.dg_lex.specs.Bytes.{Bytes}
 use Rattle.dg_lex.specs.Tokens.{is_name}
 use Rattle.dg_lex.specs.LexLaws.{is_in_range}
 use Rattle.dg_decl.specs.declared.expression.CallName.{CallName}
@@ -18,7 +18,7 @@ use Rattle.dg_decl.specs.declared.expression.Cond.TheViews.{roll-Cond, roll-Expr
 use Rattle.dg_decl.specs.declared.expression.Cond.TheFolds.{ind-Cond, ind-Expr, map-Cond, map-Expr}
 use Rattle.dg_decl.specs.Readers.{list_limit}
 use Rattle.dg_decl.specs.ExpressionForms.{nesting, condition_nesting, nesting_limit, greatest}
-use Rattle.dg_decl.specs.Written.{Written, written, written_condition, list_fits, count_fits}
+use Rattle.dg_decl.specs.Written.{written, written_condition, list_fits, count_fits}
 use Rattle.dg_decl.proofs.WrittenEquations as eq
 use Rattle.dg_decl.proofs.ExpressionsBack.{IsRead, IsConditionRead, text_read, integer_read, param_read, field_read, sum_read, if_read, equal_read, less_read, has_read, is_ok_read}
 use Rattle.dg_decl.proofs.ListsBack.{AllAtMost, greatest_within, AllRead, object_read, call_read, by_name_read, or_else_read}
@@ -62,7 +62,7 @@ good_sum a b ga gb fits nests =
     let parts = and_parts (written a).fits (written b).fits (rw (eq.written-Sum a b) at fits) in
     let deep : suc (max (nesting a) (nesting b)) ≤ nesting_limit = rw (eq.nesting-Sum a b) at nests in
     rw (eq.written-Sum a b, eq.nesting-Sum a b)
-      (sum_read (written a) (written b) (nesting a) (nesting b) a b (ga parts.0 (omega (arith, deep))) (gb parts.1 (omega (arith, deep))) deep)
+    (sum_read (written a) (written b) (nesting a) (nesting b) a b (ga parts.0 (omega (arith, deep))) (gb parts.1 (omega (arith, deep))) deep)
 
 good_if : (c : Cond) (a b : Expr) → IsGoodCondition c → IsGood a → IsGood b → IsGood (expr.If c a b)
 good_if c a b gc ga gb fits nests =
@@ -70,8 +70,8 @@ good_if c a b gc ga gb fits nests =
     let parts = and_parts (written_condition c).fits (written a).fits outer.0 in
     let deep : suc (max (condition_nesting c) (max (nesting a) (nesting b))) ≤ nesting_limit = rw (eq.nesting-If c a b) at nests in
     rw (eq.written-If c a b, eq.nesting-If c a b)
-      (if_read (written_condition c) (written a) (written b) (condition_nesting c) (nesting a) (nesting b) c a b
-        (gc parts.0 (omega (arith, deep))) (ga parts.1 (omega (arith, deep))) (gb outer.1 (omega (arith, deep))) deep)
+    (if_read (written_condition c) (written a) (written b) (condition_nesting c) (nesting a) (nesting b) c a b
+    (gc parts.0 (omega (arith, deep))) (ga parts.1 (omega (arith, deep))) (gb outer.1 (omega (arith, deep))) deep)
 
 -- a list that fits has no more members than it may, and each is read
 record IsGoodList (es : List Expr) : Type 0 where
@@ -116,14 +116,14 @@ good_equal a b ga gb fits nests =
     let parts = and_parts (written a).fits (written b).fits (rw (eq.written-Equal a b) at fits) in
     let deep : suc (max (nesting a) (nesting b)) ≤ nesting_limit = rw (eq.nesting-Equal a b) at nests in
     rw (eq.written-Equal a b)
-      (equal_read (written a) (written b) (nesting a) (nesting b) a b (ga parts.0 (omega (arith, deep))) (gb parts.1 (omega (arith, deep))))
+    (equal_read (written a) (written b) (nesting a) (nesting b) a b (ga parts.0 (omega (arith, deep))) (gb parts.1 (omega (arith, deep))))
 
 good_less : (a b : Expr) → IsGood a → IsGood b → IsGoodCondition (cond.Less a b)
 good_less a b ga gb fits nests =
     let parts = and_parts (written a).fits (written b).fits (rw (eq.written-Less a b) at fits) in
     let deep : suc (max (nesting a) (nesting b)) ≤ nesting_limit = rw (eq.nesting-Less a b) at nests in
     rw (eq.written-Less a b)
-      (less_read (written a) (written b) (nesting a) (nesting b) a b (ga parts.0 (omega (arith, deep))) (gb parts.1 (omega (arith, deep))))
+    (less_read (written a) (written b) (nesting a) (nesting b) a b (ga parts.0 (omega (arith, deep))) (gb parts.1 (omega (arith, deep))))
 
 good_has : (p : Bytes) → IsGoodCondition (cond.Has p)
 good_has p fits nests = rw (eq.written-Has p) (has_read p)

@@ -1,5 +1,5 @@
 -- How many expressions stand around one another in what is written, parentheses counted: at most twice how deep it nests.
-use Rattle.std.proofs.Common.{ℕ, suc, ◌≡◌, ◌+◌, ◌≤◌, List, [], ◌∷◌, map, max, sym, subst, arith}
+use Rattle.std.proofs.Common.{ℕ, suc, ◌+◌, ◌≤◌, List, [], ◌∷◌, map, max, sym, subst, arith}
 use Rattle.std.specs.Prelude.{ℤ, fold}
 use Rattle.dg_lex.specs.Bytes.{Bytes}
 use Rattle.dg_decl.specs.declared.expression.CallName.{CallName}

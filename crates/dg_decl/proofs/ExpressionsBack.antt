@@ -1,14 +1,11 @@
 -- Expressions are read back from their tokens: each form, from what holds of its parts.
-use Rattle.std.proofs.Common.{ℕ, zero, suc, ◌≡◌, ◌+◌, ◌-◌, ◌≤◌, ◌<◌, Bool, true, false, ◌&&◌, List, [], ◌∷◌, ◌++◌, length, map, max, Option, Some, None, refl, sym, ap, subst, ◌∙◌, append_assoc, arith}
-use Rattle.std.specs.Prelude.{if◌then◌else◌, ◌||◌, not, codes, nat_le, ℤ}
-use Rattle.std.specs.Fmt.{signed_decimal}
+use Rattle.std.proofs.Common.{ℕ, zero, suc, ◌≡◌, ◌+◌, ◌-◌, ◌≤◌, ◌<◌, Bool, true, false, ◌&&◌, List, [], ◌∷◌, ◌++◌, max, Some, refl, sym, ap, ◌∙◌, append_assoc, arith}
+use Rattle.std.specs.Prelude.{codes, ℤ}
 use Rattle.std.specs.List.{list_all}
-use Rattle.std.specs.Str.{bytes_eq}
-use Rattle.std.proofs.lemmas.Bool.{and_parts, or_parts, not-true, leb-true, false≢true}
 use Rattle.dg_lex.specs.declared.token.TokenKind.TheVariants as kind
 use Rattle.dg_lex.specs.Bytes.{Bytes, is_plain}
-use Rattle.dg_lex.specs.Tokens.{is_name, is_integer, value_of_integer}
-use Rattle.dg_lex.specs.Lexemes.{Lexeme, quoted, value_of_text}
+use Rattle.dg_lex.specs.Tokens.{is_name}
+use Rattle.dg_lex.specs.Lexemes.{Lexeme}
 use Rattle.dg_lex.specs.LexLaws.{is_in_range}
 use Rattle.dg_lex.proofs.TextLemmas.{quoted_back}
 use Rattle.dg_lex.proofs.DecimalLemmas.{decimals}
@@ -17,9 +14,9 @@ use Rattle.dg_decl.specs.declared.expression.Expr.TheVariants as expr
 use Rattle.dg_decl.specs.declared.expression.Cond.{Cond}
 use Rattle.dg_decl.specs.declared.expression.Cond.TheVariants as cond
 use Rattle.dg_decl.specs.declared.expression.Cond.TheOpen.{Cond-F, Expr-F}
-use Rattle.dg_decl.specs.Readers.{Reader, ◌>>=◌, then_reads, pure, comes, comes_kind, taken, eaten, spelled, text, integer, enclosed, list_of, in_parentheses, list_limit}
-use Rattle.dg_decl.specs.ExpressionForms.{nesting_limit, text_constant, integer_constant, object, named, named_as, atom, row_of, fields, prim, added, sum, comes_call, has, is_ok, comparison, condition, choice, whole, expression_within}
-use Rattle.dg_decl.specs.Written.{Level, Prim, Chain, Whole, Written, WrittenCondition, atom_of, parens, tight_at, loose_at, tight, loose, in_parens, name_token, word_token, sign_token, text_token, integer_token, expression_written, condition_written, separated, more_separated, list_tokens, if_tokens}
+use Rattle.dg_decl.specs.Readers.{Reader, comes, comes_kind, taken, eaten, spelled, text, integer, enclosed}
+use Rattle.dg_decl.specs.ExpressionForms.{nesting_limit, text_constant, integer_constant, named, named_as, atom, row_of, fields, prim, added, sum, comes_call, has, is_ok, comparison, condition, choice, whole, expression_within}
+use Rattle.dg_decl.specs.Written.{Level, Prim, Chain, Whole, Written, WrittenCondition, atom_of, parens, tight_at, loose_at, tight, loose, in_parens, name_token, word_token, sign_token, text_token, integer_token, expression_written, condition_written, if_tokens}
 
 -- ---- what may not follow
 
@@ -154,7 +151,7 @@ parens_prim : (s : Written) (n : ℕ) (e : Expr) → IsRead s n e → IsPrim (pa
 parens_prim s n e r d le k size rest call =
     let below : s.depth ≤ d = omega (arith, le) in
     atom_prim d e (in_parens s.tokens ++ rest) rest k size
-      (paren_atom d e s.tokens rest (enclosed_back (expression_within d) e s.tokens rest (reads_whole s n e r d below (close_paren ∷ rest) (close_ends rest))))
+    (paren_atom d e s.tokens rest (enclosed_back (expression_within d) e s.tokens rest (reads_whole s n e r d below (close_paren ∷ rest) (close_ends rest))))
 
 parens_facts : (s : Written) (n : ℕ) → Facts s n → Facts (parens s) n
 unfolding comes comes_call
@@ -240,15 +237,15 @@ pub text_read : (t : Bytes) → IsRead (expression_written (Expr-F.Text t)) 1 (e
 unfolding comes comes_call
 text_read t =
     atom_read (text_token t ∷ []) 1 1 (list_all is_plain t) (expr.Text t)
-      record { some = omega arith; fields = omega arith; added = omega arith; within = within_one; no_close = λ rest. refl; no_has = λ rest call. refl; no_ok = λ rest call. refl }
-      (λ rest. (refl, refl)) (λ d le rest call. text_atom d t rest)
+    record { some = omega arith; fields = omega arith; added = omega arith; within = within_one; no_close = λ rest. refl; no_has = λ rest call. refl; no_ok = λ rest call. refl }
+    (λ rest. (refl, refl)) (λ d le rest call. text_atom d t rest)
 
 pub integer_read : (n : ℤ) → is_in_range n ≡ true → IsRead (expression_written (Expr-F.Int n)) 1 (expr.Int n)
 unfolding comes comes_call
 integer_read n within =
     atom_read (integer_token n ∷ []) 1 1 (is_in_range n) (expr.Int n)
-      record { some = omega arith; fields = omega arith; added = omega arith; within = within_one; no_close = λ rest. refl; no_has = λ rest call. refl; no_ok = λ rest call. refl }
-      (λ rest. (refl, refl)) (λ d le rest call. integer_atom d n rest within)
+    record { some = omega arith; fields = omega arith; added = omega arith; within = within_one; no_close = λ rest. refl; no_has = λ rest call. refl; no_ok = λ rest call. refl }
+    (λ rest. (refl, refl)) (λ d le rest call. integer_atom d n rest within)
 
 no_named_call : (w p : Bytes) (rest : List Lexeme) → NoCall rest → comes_call w (name_token p ∷ rest) ≡ false
 unfolding comes_call
@@ -262,8 +259,8 @@ pub param_read : (p : Bytes) → IsRead (expression_written (Expr-F.Param p)) 1 
 unfolding comes
 param_read p =
     atom_read (name_token p ∷ []) 1 1 (is_name p) (expr.Param p)
-      record { some = omega arith; fields = omega arith; added = omega arith; within = within_one; no_close = λ rest. refl; no_has = λ rest call. no_named_call (codes "has") p rest call; no_ok = λ rest call. no_named_call (codes "ok") p rest call }
-      (λ rest. (refl, refl)) (λ d le rest call. param_atom d p rest call)
+    record { some = omega arith; fields = omega arith; added = omega arith; within = within_one; no_close = λ rest. refl; no_has = λ rest call. no_named_call (codes "has") p rest call; no_ok = λ rest call. no_named_call (codes "ok") p rest call }
+    (λ rest. (refl, refl)) (λ d le rest call. param_atom d p rest call)
 
 -- ---- fields and sums
 
@@ -286,7 +283,7 @@ field_prim : (t : Written) (n : ℕ) (e : Expr) (f : Bytes) (fits : Bool) → Is
 field_prim t n e f fits r d le k size rest call =
     let row : nesting_limit ≡ t.fields + suc k = omega (arith, size) in
     rw (append_assoc t.tokens (sign_token (codes ".") ∷ (name_token f ∷ [])) rest)
-      (r.prim d le (suc k) row (sign_token (codes ".") ∷ (name_token f ∷ rest)) (dot_no_call (name_token f ∷ rest)) ∙ field_goes k e f rest)
+    (r.prim d le (suc k) row (sign_token (codes ".") ∷ (name_token f ∷ rest)) (dot_no_call (name_token f ∷ rest)) ∙ field_goes k e f rest)
 
 pub field_read : (s : Written) (n : ℕ) (e : Expr) (f : Bytes) → IsRead s n e → suc n ≤ nesting_limit → IsRead (expression_written (Expr-F.Field s f)) (suc n) (expr.Field e f)
 field_read s n e f r within =
@@ -318,7 +315,7 @@ sum_chain x y m n a b fits rx ry d le k size rest stops =
     let ends : nesting_limit ≡ y.fields + (nesting_limit - y.fields) = omega (arith, low, high) in
     let right : prim (expression_within d) (y.tokens ++ rest) ≡ Some (b, rest) = ry.prim d dy (nesting_limit - y.fields) ends rest stops.call ∙ field_ends (nesting_limit - y.fields) b rest stops.field in
     rw (append_assoc x.tokens (sign_token (codes "+") ∷ y.tokens) rest)
-      (rx.chain d dx (suc k) row (sign_token (codes "+") ∷ (y.tokens ++ rest)) (plus_stops (y.tokens ++ rest)) ∙ added_goes d k a b (y.tokens ++ rest) rest right)
+    (rx.chain d dx (suc k) row (sign_token (codes "+") ∷ (y.tokens ++ rest)) (plus_stops (y.tokens ++ rest)) ∙ added_goes d k a b (y.tokens ++ rest) rest right)
 
 plus_no_call : (rest : List Lexeme) → NoCall (sign_token (codes "+") ∷ rest)
 unfolding comes
@@ -389,8 +386,8 @@ equal_read s t m n a b rs rt d le rest ends =
     let dx : (loose s).depth ≤ suc d = omega (arith, le) in
     let dy : (loose t).depth ≤ suc d = omega (arith, le) in
     rw (append_assoc xs (sign ∷ ys) rest)
-      (comparison_first d (xs ++ (sign ∷ (ys ++ rest))) (x.facts.no_has (sign ∷ (ys ++ rest)) (equal_ends (ys ++ rest)).stops.call) (x.facts.no_ok (sign ∷ (ys ++ rest)) (equal_ends (ys ++ rest)).stops.call)
-        ∙ equal_read_of d a b xs ys rest (chain_sum (loose s) m a x d dx (sign ∷ (ys ++ rest)) (equal_ends (ys ++ rest))) (chain_sum (loose t) n b y d dy rest ends))
+    (comparison_first d (xs ++ (sign ∷ (ys ++ rest))) (x.facts.no_has (sign ∷ (ys ++ rest)) (equal_ends (ys ++ rest)).stops.call) (x.facts.no_ok (sign ∷ (ys ++ rest)) (equal_ends (ys ++ rest)).stops.call)
+    ∙ equal_read_of d a b xs ys rest (chain_sum (loose s) m a x d dx (sign ∷ (ys ++ rest)) (equal_ends (ys ++ rest))) (chain_sum (loose t) n b y d dy rest ends))
 
 pub less_read : (s t : Written) (m n : ℕ) (a b : Expr) → IsRead s m a → IsRead t n b → IsConditionRead (condition_written (Cond-F.Less s t)) (cond.Less a b)
 less_read s t m n a b rs rt d le rest ends =
@@ -402,8 +399,8 @@ less_read s t m n a b rs rt d le rest ends =
     let dx : (loose s).depth ≤ suc d = omega (arith, le) in
     let dy : (loose t).depth ≤ suc d = omega (arith, le) in
     rw (append_assoc xs (sign ∷ ys) rest)
-      (comparison_first d (xs ++ (sign ∷ (ys ++ rest))) (x.facts.no_has (sign ∷ (ys ++ rest)) (less_ends (ys ++ rest)).stops.call) (x.facts.no_ok (sign ∷ (ys ++ rest)) (less_ends (ys ++ rest)).stops.call)
-        ∙ less_read_of d a b xs ys rest (chain_sum (loose s) m a x d dx (sign ∷ (ys ++ rest)) (less_ends (ys ++ rest))) (chain_sum (loose t) n b y d dy rest ends))
+    (comparison_first d (xs ++ (sign ∷ (ys ++ rest))) (x.facts.no_has (sign ∷ (ys ++ rest)) (less_ends (ys ++ rest)).stops.call) (x.facts.no_ok (sign ∷ (ys ++ rest)) (less_ends (ys ++ rest)).stops.call)
+    ∙ less_read_of d a b xs ys rest (chain_sum (loose s) m a x d dx (sign ∷ (ys ++ rest)) (less_ends (ys ++ rest))) (chain_sum (loose t) n b y d dy rest ends))
 
 pub has_read : (p : Bytes) → IsConditionRead (condition_written (Cond-F.Has p)) (cond.Has p)
 unfolding condition comes_call comes has taken enclosed spelled
@@ -436,10 +433,10 @@ if_whole w s t m n c a b rc rs rt (suc d) le rest ends =
     let dy : t.depth ≤ d = omega (arith, le) in
     let later : List Lexeme = word_token (codes "else") ∷ (t.tokens ++ rest) in
     rw (if_apart w s.tokens t.tokens rest)
-      (choice_of d c a b w.tokens s.tokens t.tokens rest
-        (rc d dc (word_token (codes "then") ∷ (s.tokens ++ later)) (then_ends (s.tokens ++ later)))
-        (reads_whole s m a rs d dx later (else_ends (t.tokens ++ rest)))
-        (reads_whole t n b rt d dy rest ends))
+    (choice_of d c a b w.tokens s.tokens t.tokens rest
+    (rc d dc (word_token (codes "then") ∷ (s.tokens ++ later)) (then_ends (s.tokens ++ later)))
+    (reads_whole s m a rs d dx later (else_ends (t.tokens ++ rest)))
+    (reads_whole t n b rt d dy rest ends))
 
 pub if_read : (w : WrittenCondition) (s t : Written) (k m n : ℕ) (c : Cond) (a b : Expr) → IsConditionRead w c → IsRead s m a → IsRead t n b → suc (max k (max m n)) ≤ nesting_limit → IsRead (expression_written (Expr-F.If w s t)) (suc (max k (max m n))) (expr.If c a b)
 unfolding comes comes_call

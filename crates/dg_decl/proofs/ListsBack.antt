@@ -1,8 +1,7 @@
 -- Lists of expressions, objects and functions are read back from their tokens.
-use Rattle.std.proofs.Common.{ℕ, zero, suc, ◌≡◌, ◌+◌, ◌-◌, ◌≤◌, ◌<◌, Bool, true, false, ◌&&◌, ◌==◌, List, [], ◌∷◌, ◌++◌, length, map, max, Option, Some, None, refl, sym, ap, subst, ◌∙◌, append_assoc, arith}
-use Rattle.std.specs.Prelude.{if◌then◌else◌, ◌||◌, codes, nat_le, nat_lt, fold}
-use Rattle.std.specs.List.{list_all}
-use Rattle.std.proofs.lemmas.Bool.{and_parts, leb-true, ltb-true, eqb-true, false≢true}
+use Rattle.std.proofs.Common.{ℕ, zero, suc, ◌≡◌, ◌≤◌, true, false, ◌&&◌, ◌==◌, List, [], ◌∷◌, ◌++◌, length, map, max, Some, refl, append_assoc, arith}
+use Rattle.std.specs.Prelude.{codes, nat_lt, fold}
+use Rattle.std.proofs.lemmas.Bool.{eqb-true, false≢true}
 use Rattle.dg_lex.specs.declared.token.TokenKind.TheVariants as kind
 use Rattle.dg_lex.specs.Bytes.{Bytes}
 use Rattle.dg_lex.specs.Tokens.{is_name}
@@ -13,11 +12,11 @@ use Rattle.dg_decl.specs.declared.expression.ParamCall.{ParamCall}
 use Rattle.dg_decl.specs.declared.expression.ParamCall.TheVariants as by
 use Rattle.dg_decl.specs.declared.expression.Expr.{Expr}
 use Rattle.dg_decl.specs.declared.expression.Expr.TheVariants as expr
-use Rattle.dg_decl.specs.declared.expression.Cond.TheOpen.{Cond-F, Expr-F}
-use Rattle.dg_decl.specs.Readers.{Reader, ◌>>=◌, then_reads, pure, comes, comes_kind, taken, eaten, spelled, enclosed, list_of, some_in_parentheses, in_parentheses, list_limit}
+use Rattle.dg_decl.specs.declared.expression.Cond.TheOpen.{Expr-F}
+use Rattle.dg_decl.specs.Readers.{Reader, comes, comes_kind, taken, eaten, spelled, enclosed, list_of, some_in_parentheses, in_parentheses, list_limit}
 use Rattle.dg_decl.specs.ExpressionForms.{nesting, nesting_limit, greatest, object, named, named_as, function, call_of, call_of_one, call_by_name, call_name, param_call_name, or_else, atom, comes_call, expression_within}
-use Rattle.dg_decl.specs.Written.{Written, atom_of, in_parens, name_token, word_token, sign_token, written, expression_written, separated, more_separated, list_tokens, list_depth, list_fits, count_fits}
-use Rattle.dg_decl.proofs.ExpressionsBack.{NoSign, NoCall, Stops, Ends, Facts, NoChoice, IsRead, reads_whole, atom_read, close_ends, enclosed_back, within_one}
+use Rattle.dg_decl.specs.Written.{Written, in_parens, name_token, word_token, sign_token, written, expression_written, separated, more_separated, list_tokens, list_depth, list_fits, count_fits}
+use Rattle.dg_decl.proofs.ExpressionsBack.{NoSign, Ends, IsRead, reads_whole, atom_read, close_ends, enclosed_back, within_one}
 
 -- ---- the greatest of numbers
 
@@ -77,13 +76,13 @@ members_read : (d : ℕ) (e : Expr) (es : List Expr) (k : ℕ) (rest : List Lexe
 members_read d e es zero rest r all le depths short = absurd (omega (arith, short))
 members_read d e [] (suc k) rest r all le depths short =
     rw (append_assoc (written e).tokens [] (close_paren ∷ rest))
-      (last_member (expression_within d) e k ((written e).tokens ++ (close_paren ∷ rest)) rest (reads_whole (written e) (nesting e) e r d le (close_paren ∷ rest) (close_ends rest)))
+    (last_member (expression_within d) e k ((written e).tokens ++ (close_paren ∷ rest)) rest (reads_whole (written e) (nesting e) e r d le (close_paren ∷ rest) (close_ends rest)))
 members_read d e (f ∷ es) (suc k) rest r all le depths short =
     let later : List Lexeme = listed (f ∷ es) ++ (close_paren ∷ rest) in
     rw (append_assoc (written e).tokens (comma ∷ listed (f ∷ es)) (close_paren ∷ rest))
-      (next_member (expression_within d) e (f ∷ es) k ((written e).tokens ++ (comma ∷ later)) later (close_paren ∷ rest)
-        (reads_whole (written e) (nesting e) e r d le (comma ∷ later) (comma_ends later))
-        (members_read d f es k rest all.0 all.1 depths.0 depths.1 (omega (arith, short))))
+    (next_member (expression_within d) e (f ∷ es) k ((written e).tokens ++ (comma ∷ later)) later (close_paren ∷ rest)
+    (reads_whole (written e) (nesting e) e r d le (comma ∷ later) (comma_ends later))
+    (members_read d f es k rest all.0 all.1 depths.0 depths.1 (omega (arith, short))))
 
 some_back : (d : ℕ) (e : Expr) (es : List Expr) (rest : List Lexeme) → AllRead (e ∷ es) → DepthsWithin d (e ∷ es) → length (e ∷ es) ≤ list_limit → some_in_parentheses (expression_within d) (in_parens (listed (e ∷ es)) ++ rest) ≡ Some (e ∷ es, rest)
 unfolding some_in_parentheses enclosed taken comes
@@ -110,9 +109,9 @@ pub list_back : (d : ℕ) (es : List Expr) (rest : List Lexeme) → AllRead es �
 list_back d [] rest all depths short = none_back d rest
 list_back d (e ∷ es) rest all depths short =
     members_in (expression_within d) (e ∷ es) (listed (e ∷ es)) rest
-      (rw (append_assoc (written e).tokens (more_separated comma (map (λ x. x.tokens) (map written es))) (close_paren ∷ rest))
-        (all.0.facts.no_close (more_separated comma (map (λ x. x.tokens) (map written es)) ++ (close_paren ∷ rest))))
-      (members_read d e es list_limit rest all.0 all.1 depths.0 depths.1 short)
+    (rw (append_assoc (written e).tokens (more_separated comma (map (λ x. x.tokens) (map written es))) (close_paren ∷ rest))
+    (all.0.facts.no_close (more_separated comma (map (λ x. x.tokens) (map written es)) ++ (close_paren ∷ rest))))
+    (members_read d e es list_limit rest all.0 all.1 depths.0 depths.1 short)
 
 -- ---- objects and functions
 
@@ -127,9 +126,9 @@ pub object_read : (c : Bytes) (es : List Expr) (n : ℕ) → AllRead es → leng
 unfolding comes comes_call
 object_read c es n all short within =
     atom_read (word_token (codes "new") ∷ (name_token c ∷ list_tokens (map written es))) (suc (list_depth (map written es))) (suc n) (is_name c && list_fits (map written es)) (expr.New c es)
-      record { some = omega arith; fields = omega arith; added = omega arith; within = within; no_close = λ rest. refl; no_has = λ rest call. refl; no_ok = λ rest call. refl }
-      (λ rest. (refl, refl))
-      (λ d le rest call. object_atom d c es (list_tokens (map written es)) rest (list_back d es rest all (part_depths d es le) short))
+    record { some = omega arith; fields = omega arith; added = omega arith; within = within; no_close = λ rest. refl; no_has = λ rest call. refl; no_ok = λ rest call. refl }
+    (λ rest. (refl, refl))
+    (λ d le rest call. object_atom d c es (list_tokens (map written es)) rest (list_back d es rest all (part_depths d es le) short))
 
 cat_atom : (d : ℕ) (es : List Expr) (tokens rest : List Lexeme) → some_in_parentheses (expression_within d) (in_parens tokens ++ rest) ≡ Some (es, rest) → atom (expression_within d) (name_token (codes "cat") ∷ (in_parens tokens ++ rest)) ≡ Some (expr.Call call.Cat es, rest)
 unfolding atom named named_as function call_of comes comes_kind spelled
@@ -154,7 +153,7 @@ fail_atom d e tokens rest is = rw is refl
 one_back : (d : ℕ) (e : Expr) (rest : List Lexeme) → AllRead (e ∷ []) → DepthsWithin d (e ∷ []) → enclosed (expression_within d) (in_parens (listed (e ∷ [])) ++ rest) ≡ Some (e, rest)
 one_back d e rest all depths =
     enclosed_back (expression_within d) e (listed (e ∷ [])) rest
-      (rw (append_assoc (written e).tokens [] (close_paren ∷ rest)) (reads_whole (written e) (nesting e) e all.0 d depths.0 (close_paren ∷ rest) (close_ends rest)))
+    (rw (append_assoc (written e).tokens [] (close_paren ∷ rest)) (reads_whole (written e) (nesting e) e all.0 d depths.0 (close_paren ∷ rest) (close_ends rest)))
 
 -- the one argument of a function that takes one
 abbrev pub OneAtom : CallName → Type 0
@@ -196,9 +195,9 @@ pub call_read : (f : CallName) (es : List Expr) (n : ℕ) → AllRead es → len
 unfolding comes
 call_read f es n all short count within =
     atom_read (name_token (call_name f) ∷ list_tokens (map written es)) (suc (list_depth (map written es))) (suc n) (list_fits (map written es) && count_fits f (length (map written es))) (expr.Call f es)
-      record { some = omega arith; fields = omega arith; added = omega arith; within = within; no_close = λ rest. refl; no_has = λ rest call. no_has_call f (list_tokens (map written es) ++ rest); no_ok = λ rest call. no_ok_call f (list_tokens (map written es) ++ rest) }
-      (λ rest. (refl, refl))
-      (λ d le rest call. call_atom f d es rest count all (part_depths d es le) short)
+    record { some = omega arith; fields = omega arith; added = omega arith; within = within; no_close = λ rest. refl; no_has = λ rest call. no_has_call f (list_tokens (map written es) ++ rest); no_ok = λ rest call. no_ok_call f (list_tokens (map written es) ++ rest) }
+    (λ rest. (refl, refl))
+    (λ d le rest call. call_atom f d es rest count all (part_depths d es le) short)
 
 by_name_atom : (f : ParamCall) (d : ℕ) (p : Bytes) (rest : List Lexeme) → atom (expression_within d) (name_token (param_call_name f) ∷ (in_parens (name_token p ∷ []) ++ rest)) ≡ Some (expr.ByName f p, rest)
 unfolding atom named named_as function call_by_name enclosed taken comes comes_kind spelled
@@ -225,9 +224,9 @@ pub by_name_read : (f : ParamCall) (p : Bytes) → IsRead (expression_written (E
 unfolding comes
 by_name_read f p =
     atom_read (name_token (param_call_name f) ∷ in_parens (name_token p ∷ [])) 1 1 (is_name p) (expr.ByName f p)
-      record { some = omega arith; fields = omega arith; added = omega arith; within = within_one; no_close = λ rest. refl; no_has = λ rest call. no_has_by_name f (in_parens (name_token p ∷ []) ++ rest); no_ok = λ rest call. no_ok_by_name f (in_parens (name_token p ∷ []) ++ rest) }
-      (λ rest. (refl, refl))
-      (λ d le rest call. by_name_atom f d p rest)
+    record { some = omega arith; fields = omega arith; added = omega arith; within = within_one; no_close = λ rest. refl; no_has = λ rest call. no_has_by_name f (in_parens (name_token p ∷ []) ++ rest); no_ok = λ rest call. no_ok_by_name f (in_parens (name_token p ∷ []) ++ rest) }
+    (λ rest. (refl, refl))
+    (λ d le rest call. by_name_atom f d p rest)
 
 or_else_atom : (d : ℕ) (p : Bytes) (e : Expr) (tokens rest : List Lexeme) → expression_within d (tokens ++ (close_paren ∷ rest)) ≡ Some (e, close_paren ∷ rest) → atom (expression_within d) (name_token (codes "orElse") ∷ (in_parens (name_token p ∷ (comma ∷ tokens)) ++ rest)) ≡ Some (expr.OrElse p e, rest)
 unfolding atom named named_as function or_else taken comes comes_kind spelled
@@ -237,6 +236,6 @@ pub or_else_read : (p : Bytes) (s : Written) (n : ℕ) (e : Expr) → IsRead s n
 unfolding comes comes_call
 or_else_read p s n e r within =
     atom_read (name_token (codes "orElse") ∷ in_parens (name_token p ∷ (comma ∷ s.tokens))) (suc s.depth) (suc n) (is_name p && s.fits) (expr.OrElse p e)
-      record { some = omega arith; fields = omega arith; added = omega arith; within = within; no_close = λ rest. refl; no_has = λ rest call. refl; no_ok = λ rest call. refl }
-      (λ rest. (refl, refl))
-      (λ d le rest call. (let below : s.depth ≤ d = omega (arith, le) in or_else_atom d p e s.tokens rest (reads_whole s n e r d below (close_paren ∷ rest) (close_ends rest))))
+    record { some = omega arith; fields = omega arith; added = omega arith; within = within; no_close = λ rest. refl; no_has = λ rest call. refl; no_ok = λ rest call. refl }
+    (λ rest. (refl, refl))
+    (λ d le rest call. (let below : s.depth ≤ d = omega (arith, le) in or_else_atom d p e s.tokens rest (reads_whole s n e r d below (close_paren ∷ rest) (close_ends rest))))

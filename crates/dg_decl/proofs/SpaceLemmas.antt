@@ -98,9 +98,10 @@ parted_at t p false false e f is owed = rw (e, f) (space_or_touch t p.token.spel
 
 behind_parted : (piece : Piece) (ps : List Printed) → kind_of piece.token.spelling ≡ Some piece.token.kind → AllTokens ps → IsCloseFrom piece.token ps → AreParted (piece ∷ pieces_behind piece.token ps)
 behind_parted piece [] is are close = tt
-behind_parted piece (p ∷ ps) is are close =
-    (parted_at piece.token p p.close (has_space piece.token.spelling p.token.spelling) refl refl is close.0,
-     behind_parted (record { token = p.token; apart = not p.close && has_space piece.token.spelling p.token.spelling }) ps are.0 are.1 close.1)
+behind_parted piece (p ∷ ps) is are close = (
+  parted_at piece.token p p.close (has_space piece.token.spelling p.token.spelling) refl refl is close.0,
+  behind_parted (record { token = p.token; apart = not p.close && has_space piece.token.spelling p.token.spelling }) ps are.0 are.1 close.1,
+)
 
 pub pieces_parted : (ps : List Printed) → AllTokens ps → IsClose ps → AreParted (pieces_of ps)
 pieces_parted [] are close = tt

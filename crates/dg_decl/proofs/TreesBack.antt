@@ -1,10 +1,8 @@
 -- Bodies of members and trees of producers are read back.
-use Rattle.std.proofs.Common.{ℕ, zero, suc, ◌≡◌, ◌+◌, ◌≤◌, Bool, true, false, ◌&&◌, List, [], ◌∷◌, ◌++◌, max, Some, None, refl, sym, ap, subst, ◌∙◌, append_assoc, arith}
-use Rattle.std.specs.Prelude.{if◌then◌else◌, codes, nat_le}
+use Rattle.std.proofs.Common.{ℕ, zero, suc, ◌≡◌, ◌≤◌, true, ◌&&◌, List, ◌∷◌, ◌++◌, max, Some, refl, sym, subst, append_assoc, arith}
+use Rattle.std.specs.Prelude.{codes}
 use Rattle.std.proofs.lemmas.Bool.{and_parts, le-leb}
-use Rattle.dg_lex.specs.declared.token.TokenKind.TheVariants as kind
 use Rattle.dg_lex.specs.Bytes.{Bytes, line_limit}
-use Rattle.dg_lex.specs.Tokens.{is_name}
 use Rattle.dg_lex.specs.Lexemes.{Lexeme}
 use Rattle.dg_decl.specs.declared.expression.Expr.{Expr}
 use Rattle.dg_decl.specs.declared.expression.Cond.{Cond}
@@ -14,8 +12,8 @@ use Rattle.dg_decl.specs.declared.expression.Tree.TheOpen.{Tree-F}
 use Rattle.dg_decl.specs.declared.expression.Tree.TheViews.{roll-Tree}
 use Rattle.dg_decl.specs.declared.expression.Tree.TheFolds.{ind-Tree, map-Tree}
 use Rattle.dg_decl.specs.Readers.{comes, taken, spelled}
-use Rattle.dg_decl.specs.ExpressionForms.{nesting, condition_nesting, tree_nesting, nesting_limit, nested, condition, expression, expression_within, body, awaited, leaf, sum, tree_choice, tree_over, tree_within, tree_body}
-use Rattle.dg_decl.specs.Written.{Written, WrittenCondition, WrittenTree, loose, if_tokens, name_token, word_token, written, written_condition, written_tree}
+use Rattle.dg_decl.specs.ExpressionForms.{nesting, condition_nesting, tree_nesting, nesting_limit, nested, condition, expression, expression_within, body, awaited, leaf, tree_choice, tree_over, tree_within, tree_body}
+use Rattle.dg_decl.specs.Written.{Written, loose, if_tokens, name_token, word_token, written, written_condition, written_tree}
 use Rattle.dg_decl.proofs.WrittenEquations as eq
 use Rattle.dg_decl.proofs.ExpressionsBack.{Ends, NoChoice, reads_whole, reads_loose, chain_sum, then_ends, else_ends}
 use Rattle.dg_decl.proofs.AllBack.{expression_back, condition_back}
@@ -51,7 +49,7 @@ leaf_back e fits nests (suc d) le rest ends =
     let good : (written e).fits ≡ true = rw (eq.written_tree-Leaf e) at fits in
     let small : nesting e ≤ nesting_limit = rw (eq.tree_nesting-Leaf e) at nests in
     rw (eq.written_tree-Leaf e)
-      (leaf_over d (loose (written e)) (tree.Leaf e) rest (reads_loose (written e) (nesting e) e (expression_back e good small)).choice (leaf_sum e good small rest ends))
+    (leaf_over d (loose (written e)) (tree.Leaf e) rest (reads_loose (written e) (nesting e) e (expression_back e good small)).choice (leaf_sum e good small rest ends))
 
 await_over : (d : ℕ) (p : Bytes) (rest : List Lexeme) → tree_within (suc d) (word_token (codes "await") ∷ (name_token p ∷ rest)) ≡ Some (tree.Await p, rest)
 unfolding tree_within tree_over awaited comes taken spelled
@@ -82,15 +80,15 @@ if_over c a b ba bb fits nests (suc d) le rest ends =
     let ys = (written_tree b).tokens in
     let later : List Lexeme = word_token (codes "else") ∷ (ys ++ rest) in
     rw (append_assoc cs (word_token (codes "then") ∷ (xs ++ (word_token (codes "else") ∷ ys))) rest, append_assoc xs (word_token (codes "else") ∷ ys) rest)
-      (choice_over d c a b cs xs ys rest
-        (condition_read c parts.0 (omega (arith, nests)) (word_token (codes "then") ∷ (xs ++ later)) (then_ends (xs ++ later)))
-        (ba parts.1 (omega (arith, nests)) d (omega (arith, le)) later (else_ends (ys ++ rest)))
-        (bb outer.1 (omega (arith, nests)) d (omega (arith, le)) rest ends))
+    (choice_over d c a b cs xs ys rest
+    (condition_read c parts.0 (omega (arith, nests)) (word_token (codes "then") ∷ (xs ++ later)) (then_ends (xs ++ later)))
+    (ba parts.1 (omega (arith, nests)) d (omega (arith, le)) later (else_ends (ys ++ rest)))
+    (bb outer.1 (omega (arith, nests)) d (omega (arith, le)) rest ends))
 
 if_back : (c : Cond) (a b : Tree) → IsTreeBack a → IsTreeBack b → IsTreeBack (tree.If c a b)
 if_back c a b ba bb fits nests d le rest ends =
     rw (eq.written_tree-If c a b)
-      (if_over c a b ba bb (rw (eq.written_tree-If c a b) at fits) (rw (eq.tree_nesting-If c a b) at nests) d (rw (eq.written_tree-If c a b) at le) rest ends)
+    (if_over c a b ba bb (rw (eq.written_tree-If c a b) at fits) (rw (eq.tree_nesting-If c a b) at nests) d (rw (eq.written_tree-If c a b) at le) rest ends)
 
 abbrev Part : Type 0
 Part = (t : Tree) × IsTreeBack t
@@ -102,3 +100,45 @@ tree_at (Tree-F.If c a b) = subst IsTreeBack (sym (tree.rolls-If c a.0 b.0)) (if
 
 pub tree_back : (t : Tree) → IsTreeBack t
 tree_back = ind-Tree IsTreeBack (λ x y is. subst (λ (z : Tree-F Tree). IsTreeBack (roll-Tree z)) is (tree_at y))
+
+-- ---- a tree that nests so deep has no more choices around one another
+
+abbrev IsTreeShallow : Tree → Type 0
+IsTreeShallow t = (written_tree t).fits ≡ true → tree_nesting t ≤ nesting_limit → (written_tree t).depth ≤ tree_nesting t
+
+shallow_leaf : (e : Expr) → IsTreeShallow (tree.Leaf e)
+shallow_leaf e fits nests =
+    let good : (written e).fits ≡ true = rw (eq.written_tree-Leaf e) at fits in
+    let small : nesting e ≤ nesting_limit = rw (eq.tree_nesting-Leaf e) at nests in
+    let some = (expression_back e good small).facts.fields in
+    rw (eq.written_tree-Leaf e, eq.tree_nesting-Leaf e) (omega (arith, some))
+
+shallow_await : (p : Bytes) → IsTreeShallow (tree.Await p)
+shallow_await p fits nests = rw (eq.written_tree-Await p, eq.tree_nesting-Await p) (omega arith)
+
+shallow_if : (c : Cond) (a b : Tree) → IsTreeShallow a → IsTreeShallow b → IsTreeShallow (tree.If c a b)
+shallow_if c a b sa sb fits nests =
+    let outer = and_parts ((written_condition c).fits && (written_tree a).fits) (written_tree b).fits (rw (eq.written_tree-If c a b) at fits) in
+    let parts = and_parts (written_condition c).fits (written_tree a).fits outer.0 in
+    let deep : suc (max (condition_nesting c) (max (tree_nesting a) (tree_nesting b))) ≤ nesting_limit = rw (eq.tree_nesting-If c a b) at nests in
+    let left = sa parts.1 (omega (arith, deep)) in
+    let right = sb outer.1 (omega (arith, deep)) in
+    rw (eq.written_tree-If c a b, eq.tree_nesting-If c a b) (omega (arith, left, right))
+
+abbrev ShallowPart : Type 0
+ShallowPart = (t : Tree) × IsTreeShallow t
+
+shallow_at : (y : Tree-F ShallowPart) → IsTreeShallow (roll-Tree (map-Tree ShallowPart Tree (λ t. t.0) y))
+shallow_at (Tree-F.Leaf e) = subst IsTreeShallow (sym (tree.rolls-Leaf e)) (shallow_leaf e)
+shallow_at (Tree-F.Await p) = subst IsTreeShallow (sym (tree.rolls-Await p)) (shallow_await p)
+shallow_at (Tree-F.If c a b) = subst IsTreeShallow (sym (tree.rolls-If c a.0 b.0)) (shallow_if c a.0 b.0 a.1 b.1)
+
+tree_shallow : (t : Tree) → IsTreeShallow t
+tree_shallow = ind-Tree IsTreeShallow (λ x y is. subst (λ (z : Tree-F Tree). IsTreeShallow (roll-Tree z)) is (shallow_at y))
+
+pub tree_body_back : (t : Tree) → (written_tree t).fits ≡ true → tree_nesting t ≤ nesting_limit → (rest : List Lexeme) → Ends rest → tree_body ((written_tree t).tokens ++ rest) ≡ Some (t, rest)
+unfolding tree_body nested
+tree_body_back t fits nests rest ends =
+    let shallow = tree_shallow t fits nests in
+    let depth : (written_tree t).depth ≤ nesting_limit = omega (arith, shallow, nests) in
+    rw (tree_back t fits nests nesting_limit depth rest ends, le-leb (tree_nesting t) nesting_limit nests) refl

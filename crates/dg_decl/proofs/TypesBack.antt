@@ -47,8 +47,8 @@ other_name n other =
 named_back : (n : Bytes) → IsReadBack (shape.Named n)
 named_back n fits d le rest none =
     rw (written_type-Named n)
-      (within_over d n (shape.Named n) rest (rw (written_type-Named n) at le)
-        (other_name n (and_parts (is_name n) (not (is_among n (codes "Text" ∷ codes "Int" ∷ []))) (rw (written_type-Named n) at fits)).1) none)
+    (within_over d n (shape.Named n) rest (rw (written_type-Named n) at le)
+    (other_name n (and_parts (is_name n) (not (is_among n (codes "Text" ∷ codes "Int" ∷ []))) (rw (written_type-Named n) at fits)).1) none)
 
 abbrev close_parts : Lexeme
 close_parts = sign_token (codes ">")

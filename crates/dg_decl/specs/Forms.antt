@@ -29,7 +29,7 @@ unfoldable pub map_key_mark : Reader MapKeyVal
 map_key_mark = do
   is_text ← eaten kind.AtName (codes "@StringKey")
   if is_text then (enclosed text >>= λ k. pure (map_key.Text k))
-    else (taken kind.AtName (codes "@IntKey") >> enclosed integer >>= λ i. pure (map_key.Int i))
+      else (taken kind.AtName (codes "@IntKey") >> enclosed integer >>= λ i. pure (map_key.Int i))
 
 -- [MARK]: an at-name of one of these names in front is the mark
 unfoldable pub mark_form : Reader (Option Mark)
@@ -52,7 +52,7 @@ qualifier_line = do
   n ← name
   member ← eaten kind.Sign (codes "(")
   if member then (keyword (codes "Text") >> sign (codes ")") >> at_end >> pure (item.QualifierLine n true))
-    else (at_end >> pure (item.QualifierLine n false))
+      else (at_end >> pure (item.QualifierLine n false))
 
 -- scope N
 unfoldable pub scope_line : Reader Item

@@ -169,8 +169,13 @@ of_contributions doc class key = map contribution (contributions doc class key)
   where
     contribution : Owned → Dependency
     contribution o =
-        record { param = None; mode = mode_of_inner (inner_of key.core); key = key; class = class
-               ; found = found.One o.owner o.binding }
+        record {
+          param = None;
+          mode = mode_of_inner (inner_of key.core);
+          key = key;
+          class = class;
+          found = found.One o.owner o.binding;
+        }
 
 abbrev pub is_nothing : Found → Bool
 is_nothing found.Nothing = true
@@ -273,6 +278,7 @@ own_groups doc class s = flat_map groups (filter (λ b. b.item == s.index) (bind
   where
     first_here : Key → Bool
     first_here k = option_map_or (λ i. i == s.index) (first_statement doc class k) false
+
     groups : Bind → List NodeKind
     groups b = of_kind b.kind b.key
       where

@@ -91,6 +91,7 @@ incompatibly_scoped_member doc n = of_kind n.kind
     broken : Bytes → List Violation
     broken scope =
         where_true (not (is_among scope (scopes_of doc n.class))) (at_node rule.IncompatiblyScopedMember (Some (scope_text scope)) doc n)
+
     of_kind : NodeKind → List Violation
     of_kind (node.Bound (binding.Member i)) = option_map_or broken (scope_of doc n) []
     of_kind other = []
@@ -128,9 +129,11 @@ map_keys doc n = of_kind n.kind
   where
     broken : Key → List Violation
     broken key = map (λ k. at_node rule.MapKeys (Some (map_key_text k)) doc n) (repeated (map_keys_of doc n.class key))
+
     of_core : Key → Core → List Violation
     of_core key (core.Map k b i) = broken key
     of_core key other = []
+
     of_kind : NodeKind → List Violation
     of_kind (node.Multi key) = of_core key key.core
     of_kind other = []
@@ -165,10 +168,11 @@ depends_on_production doc n = of_kind n.kind
     broken d =
         if (is_provision doc n || is_provider_mode d.mode) && is_production_found doc d
         then Some (at_request rule.DependsOnProduction (key_text d.key) doc n d) else None
+
     of_kind : NodeKind → List Violation
     of_kind (node.Multi key) =
         where_true (is_provider_form (inner_of key.core) && list_any (is_production doc) (targets doc n))
-            (at_node rule.DependsOnProduction (Some (key_text key)) doc n)
+        (at_node rule.DependsOnProduction (Some (key_text key)) doc n)
     of_kind other = filter_map broken (deps doc n)
 
 -- the inside of an optional is a production

@@ -39,6 +39,7 @@ tie_of doc s = of_item s.item
     dependent : Bytes → ℕ → ℕ → Option Tie
     dependent from of class =
         if list_any (λ d. d == class) (deps_of doc of) then Some (record { from = from; class = class }) else None
+
     of_item : Item → Option Tie
     of_item (item.Link from to) =
         option_and_then (λ of. option_and_then (dependent from of) (class_of_instance doc s to)) (class_of_instance doc s from)

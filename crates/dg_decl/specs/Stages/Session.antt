@@ -71,6 +71,7 @@ wrong_parent doc s = of_item s.item
     broken : Bytes → Option ℕ → List Violation
     broken class given =
         if fits_parent (option_and_then (parent_of doc) (class_named doc class)) given then [] else at_line rule.WrongParent s class ∷ []
+
     of_item : Item → List Violation
     of_item (item.OpenLine n class parent args) = broken class (option_and_then (class_of_instance doc s) parent)
     of_item other = []
@@ -106,6 +107,7 @@ bad_argument doc s = of_item s.item
   where
     bounds_of : Bytes → List Bound
     bounds_of class = option_map_or (bound_of doc) (class_named doc class) []
+
     of_item : Item → List Violation
     of_item (item.OpenLine n class parent args) =
         map (at_line rule.BadArgument s)
@@ -168,6 +170,7 @@ bad_path doc s = of_item s.item
   where
     misfit : List AskStep → Item → Option ℕ
     misfit steps entry = option_and_then (λ u. first_misfit doc 1 u.shape steps) (result_of entry)
+
     of_item : Item → List Violation
     of_item (item.AskLine inst entry steps) =
         map (λ k. at_line rule.BadPath s (decimal k)) (option_to_list (option_and_then (misfit steps) (asked_entry doc s inst entry)))
