@@ -1,3 +1,15 @@
+pub mod ExampleWords
+pub mod ExamplesLookup
+pub mod ExamplesComponents
+pub mod WalkLemmas
+pub mod NumberBounds
+pub mod ComponentLemmas
+pub mod ChainLemmas
+pub mod ExamplesNames
+pub mod HeaderLemmas
+pub mod NodeWalks
+pub mod NodeEquality
+pub mod ExampleShop
 pub mod OneReading
 pub mod LineLemmas
 pub mod ExamplesReading

@@ -7,7 +7,7 @@ use Rattle.dg_decl.specs.declared.item.Item.{Item}
 use Rattle.dg_lex.specs.Bytes.{Bytes}
 use Rattle.dg_decl.specs.Lines.{lines_of, rest_of}
 use Rattle.dg_decl.specs.Blocks.{open_block}
-use Rattle.dg_decl.specs.Reading.{items_of, places_of, is_good_at, IsBad, bad_line, bad_rest, bad_end, FirstBad, Reads, IsReadOnce, IsRefusedOnce, OneReading}
+use Rattle.dg_decl.specs.Reading.{items_of, line_numbers_of, is_good_at, IsBad, bad_line, bad_rest, bad_end, FirstBad, Reads, IsReadOnce, IsRefusedOnce, OneReading}
 
 -- each number below k passes, or there is a first one that doesn't
 record IsFirstFailing (p : ℕ → Bool) (k n : ℕ) : Type 0 where
@@ -63,7 +63,7 @@ abbrev doc_of : List Item → List ℕ → Doc
 doc_of items lines = record { items = items; lines = lines }
 
 abbrev the_doc : Bytes → Doc
-the_doc bytes = doc_of (items_of (lines_of bytes)) (places_of (lines_of bytes))
+the_doc bytes = doc_of (items_of (lines_of bytes)) (line_numbers_of (lines_of bytes))
 
 same_doc : (a b : Doc) → a.items ≡ b.items → a.lines ≡ b.lines → a ≡ b
 same_doc a b e f = ap (λ (items : List Item). doc_of items a.lines) e ∙ ap (λ (lines : List ℕ). doc_of b.items lines) f

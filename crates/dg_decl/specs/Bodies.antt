@@ -87,7 +87,8 @@ tree_calls_at (Tree-F.If cond first other) = calls_of_cond cond ++ (first ++ oth
 abbrev pub calls_of_tree : Tree → List Bytes
 calls_of_tree = fold-Tree (List Bytes) tree_calls_at
 
--- the parameters that the body of an item calls, in reading order, arms that are never taken included
+-- the parameters that the body of an item calls, in reading order, arms that are never taken
+-- included
 unfoldable pub called_params : Item → List Bytes
 called_params (item.Provides mark scope n params result body) = calls_of_expr body
 called_params (item.Produces mark n params result body) = calls_of_tree body

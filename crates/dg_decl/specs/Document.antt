@@ -1,13 +1,12 @@
 -- The items of a document where they stand: statements.
-use Rattle.std.specs.Prelude.{ℕ, suc, Bool, true, false, ◌&&◌, ◌==◌, if◌then◌else◌, List, [], ◌∷◌, length, Option, Some, None, slice_get, slice_index}
-use Rattle.std.specs.Str.{bytes_eq}
-use Rattle.std.specs.List.{filter, list_any}
-use Rattle.dg_lex.specs.Bytes.{Bytes}
+use Rattle.std.specs.Prelude.{ℕ, suc, Bool, true, false, ◌==◌, if◌then◌else◌, List, [], ◌∷◌, Option, Some, None, slice_index}
+use Rattle.std.specs.List.{filter}
 use Rattle.dg_decl.specs.declared.document.Doc.{Doc}
 use Rattle.dg_decl.specs.declared.item.Item.{Item}
 use Rattle.dg_decl.specs.declared.item.Item.TheVariants as item
 
--- an item with its index, the number of its line, and the index of the header in whose block it stands
+-- an item with its index, the number of its line, and the index of the header in whose block it
+-- stands
 pub record Statement : Type 0 where
   pub index : ℕ
   pub line : ℕ
@@ -27,7 +26,8 @@ abbrev pub is_end : Item → Bool
 is_end item.End = true
 is_end other = false
 
--- the header of the block that is open behind an item of this index, where this one was open before it
+-- the header of the block that is open behind an item of this index, where this one was open before
+-- it
 abbrev pub open_behind : Option ℕ → ℕ → Item → Option ℕ
 open_behind block index x = if is_header x then Some index else (if is_end x then None else block)
 

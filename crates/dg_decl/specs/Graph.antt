@@ -1,5 +1,5 @@
 -- The graph of a document: its nodes, what each node needs, and the edges between them.
-use Rattle.std.specs.Prelude.{◌≡◌, ◌↔◌, ℕ, zero, suc, ◌+◌, Bool, true, false, not, ◌&&◌, ◌||◌, ◌==◌, if◌then◌else◌, List, [], ◌∷◌, ◌++◌, length, nat_lt, is_none, map, filter, filter_map, flat_map, position, codes, slice_get, Option, Some, None, option_map, option_and_then, option_to_list, Contains}
+use Rattle.std.specs.Prelude.{◌↔◌, ℕ, suc, Bool, true, false, not, ◌&&◌, ◌||◌, ◌==◌, if◌then◌else◌, List, [], ◌∷◌, ◌++◌, length, nat_lt, is_none, map, filter, filter_map, flat_map, position, codes, slice_get, Option, Some, None, option_map, option_and_then, option_to_list, Contains}
 use Rattle.std.specs.List.{list_any, range_with_len, enumerate_from, IsDistinct}
 use Rattle.std.specs.Option.{option_map_or}
 use Rattle.std.specs.Str.{bytes_eq}
@@ -12,7 +12,6 @@ use Rattle.dg_types.specs.declared.key.Inner.TheVariants as inner
 use Rattle.dg_types.specs.declared.key.Mode.{Mode}
 use Rattle.dg_types.specs.declared.key.Mode.TheVariants as mode
 use Rattle.dg_types.specs.declared.key.Request.{Request}
-use Rattle.dg_types.specs.declared.shape.TypeUse.{TypeUse}
 use Rattle.dg_types.specs.Requests.{request_of}
 use Rattle.dg_types.specs.Equality.{same_key}
 use Rattle.dg_types.specs.Texts.{key_text}
@@ -20,10 +19,6 @@ use Rattle.dg_decl.specs.declared.document.Doc.{Doc}
 use Rattle.dg_decl.specs.declared.item.Item.{Item}
 use Rattle.dg_decl.specs.declared.item.Item.TheVariants as item
 use Rattle.dg_decl.specs.declared.item.Param.{Param}
-use Rattle.dg_decl.specs.declared.expression.Expr.{Expr}
-use Rattle.dg_decl.specs.declared.expression.Tree.{Tree}
-use Rattle.dg_decl.specs.declared.component.Bound.{Bound}
-use Rattle.dg_decl.specs.declared.component.Exposed.{Exposed}
 use Rattle.dg_decl.specs.declared.binding.Bind.{Bind}
 use Rattle.dg_decl.specs.declared.binding.BindKind.{BindKind}
 use Rattle.dg_decl.specs.declared.binding.BindKind.TheVariants as kind
@@ -79,13 +74,17 @@ item_name doc i = option_map_or name_of (item_at doc i) []
 
 -- `M.p`: a member behind the name of the block in which it stands
 abbrev pub member_text : Doc → ℕ → Bytes
-member_text doc i = option_map_or (λ s. owner s.block ++ (codes "." ++ name_of s.item)) (slice_get (statements doc) i) []
+member_text doc i =
+    option_map_or (λ s. owner s.block ++ (codes "." ++ name_of s.item))
+    (slice_get (statements doc) i) []
   where
     owner : Option ℕ → Bytes
     owner block = option_map_or (item_name doc) block []
 
 abbrev pub argument_text : Doc → ℕ → ℕ → Bytes
-argument_text doc class arg = option_map_or (λ b. class_name doc class ++ (codes "." ++ b.name)) (slice_get (bound_of doc class) arg) []
+argument_text doc class arg =
+    option_map_or (λ b. class_name doc class ++ (codes "." ++ b.name))
+    (slice_get (bound_of doc class) arg) []
 
 abbrev pub binding_text : Doc → ℕ → BindRef → Bytes
 binding_text doc class (binding.Member i) = member_text doc i
@@ -93,11 +92,12 @@ binding_text doc class (binding.ClassItem i) = item_name doc i
 binding_text doc class (binding.Arg a) = argument_text doc class a
 binding_text doc class binding.Default = argument_text doc class 0
 binding_text doc class (binding.Exposed dep entry) =
-    option_map_or (λ d. class_name doc d ++ (codes "." ++ item_name doc entry)) (slice_get (deps_of doc class) dep) []
+    option_map_or (λ d. class_name doc d ++ (codes "." ++ item_name doc entry))
+    (slice_get (deps_of doc class) dep) []
 
--- A module member is `M.p`, an `@Inject` class its name, a bound argument or default binding `C.arg`, an exposed entry
--- `D.entry` with the dependency's class, a set, map or optional its key, and an entry point `OWNER.entry` with the
--- component or entry point block that declares it.
+-- A module member is `M.p`, an `@Inject` class its name, a bound argument or default binding
+-- `C.arg`, an exposed entry `D.entry` with the dependency's class, a set, map or optional its key,
+-- and an entry point `OWNER.entry` with the component or entry point block that declares it.
 unfoldable pub node_text : Doc → Node → Bytes
 node_text doc n = kind_text n.class n.kind
   where
@@ -113,11 +113,13 @@ site_of_node doc n = class_name doc n.class ++ (codes "/" ++ node_text doc n)
 
 -- `CLASS/NODE(PARAM)`, or the node alone where its one request has no parameter
 unfoldable pub site_of_request : Doc → Node → Option Bytes → Bytes
-site_of_request doc n param = site_of_node doc n ++ option_map_or (λ p. codes "(" ++ (p ++ codes ")")) param []
+site_of_request doc n param =
+    site_of_node doc n ++ option_map_or (λ p. codes "(" ++ (p ++ codes ")")) param []
 
 -- ---- what a node needs
 
--- a request with its parameter, if it has one, and what it finds; of a contribution the mode in which it is taken
+-- a request with its parameter, if it has one, and what it finds; of a contribution the mode in
+-- which it is taken
 pub record Dependency : Type 0 where
   pub param : Option Bytes
   pub mode : Mode
@@ -128,26 +130,36 @@ pub record Dependency : Type 0 where
 -- a request that is looked up in a class
 abbrev pub asked : Doc → ℕ → Option Bytes → Request → Dependency
 asked doc class param r =
-    record { param = param; mode = r.mode; key = r.key; class = class; found = find doc class r.key }
+    record {
+      param = param;
+      mode = r.mode;
+      key = r.key;
+      class = class;
+      found = find doc class r.key;
+    }
 
 abbrev pub of_param : Doc → ℕ → Param → Option Dependency
 of_param doc class p = option_map (asked doc class (Some p.name)) (request_of p.shape)
 
 -- the requests of an item's parameters, in order
 abbrev pub of_params : Doc → ℕ → ℕ → List Dependency
-of_params doc class i = option_map_or (λ x. filter_map (of_param doc class) (params_of x)) (item_at doc i) []
+of_params doc class i =
+    option_map_or (λ x. filter_map (of_param doc class) (params_of x)) (item_at doc i) []
 
 -- the one request of an entry point, looked up in a class
 abbrev pub of_entry : Doc → ℕ → ℕ → List Dependency
 of_entry doc class i =
-    option_to_list (option_map (asked doc class None) (option_and_then request_of (option_and_then result_of (item_at doc i))))
+    option_to_list
+    (option_map (asked doc class None)
+    (option_and_then request_of (option_and_then result_of (item_at doc i))))
 
 abbrev pub of_binding : Doc → ℕ → BindRef → List Dependency
 of_binding doc class (binding.Member i) = of_params doc class i
 of_binding doc class (binding.ClassItem i) = of_params doc class i
 of_binding doc class (binding.Arg a) = []
 of_binding doc class binding.Default = []
-of_binding doc class (binding.Exposed dep entry) = option_map_or (λ d. of_entry doc d entry) (slice_get (deps_of doc class) dep) []
+of_binding doc class (binding.Exposed dep entry) =
+    option_map_or (λ d. of_entry doc d entry) (slice_get (deps_of doc class) dep) []
 
 -- the mode in which what a set holds, a map gives or an optional has inside is taken
 abbrev pub mode_of_inner : Inner → Mode
@@ -184,10 +196,14 @@ is_nothing other = false
 -- the inside of an optional, where it is present
 abbrev pub of_inside : Doc → ℕ → Key → List Dependency
 of_inside doc class key =
-    filter (λ d. not (is_nothing d.found)) (asked doc class None (record { mode = mode_of_inner (inner_of key.core); key = inside_key key }) ∷ [])
+    filter (λ d. not (is_nothing d.found))
+    (asked doc class None
+    (record { mode = mode_of_inner (inner_of key.core); key = inside_key key })
+    ∷ [])
 
--- what a node needs, in order: the requests of its parameters, its contributions, its inside or its one request. All are
--- looked up in its owner class, but the request of an exposed entry in the class of the dependency.
+-- what a node needs, in order: the requests of its parameters, its contributions, its inside or its
+-- one request. All are looked up in its owner class, but the request of an exposed entry in the
+-- class of the dependency.
 unfoldable pub deps : Doc → Node → List Dependency
 deps doc n = of_kind n.class n.kind
   where
@@ -197,7 +213,8 @@ deps doc n = of_kind n.class n.kind
     of_kind class (node.Opt k) = of_inside doc class k
     of_kind class (node.EntryOf i) = of_entry doc class i
 
--- the node that a look-up in a class leads to: many bindings, a scope that no class carries, and nothing give none
+-- the node that a look-up in a class leads to: many bindings, a scope that no class carries, and
+-- nothing give none
 abbrev pub node_found : ℕ → Key → Found → Option Node
 node_found class key (found.One owner b) = Some (node_of owner (node.Bound b))
 node_found class key (found.SetOf os) = Some (node_of class (node.Multi key))
@@ -215,7 +232,9 @@ targets doc n = filter_map target (deps doc n)
 
 -- the entry points of all classes
 abbrev pub entry_nodes : Doc → List Node
-entry_nodes doc = flat_map (λ c. map (λ i. node_of c (node.EntryOf i)) (entries_of doc c)) (range_with_len 0 (class_count doc))
+entry_nodes doc =
+    flat_map (λ c. map (λ i. node_of c (node.EntryOf i)) (entries_of doc c))
+    (range_with_len 0 (class_count doc))
 
 -- an entry point, or what a reachable node needs
 abbrev pub IsReachable : Doc → Node → Type 0
@@ -227,9 +246,11 @@ IsReachable doc = IsReached (targets doc) (entry_nodes doc)
 abbrev pub forms_of_core : Core → List Core
 forms_of_core (core.One b) = []
 forms_of_core (core.Set b i) = core.Set b inner.Plain ∷ core.Set b inner.Produced ∷ []
-forms_of_core (core.Map k b i) = core.Map k b inner.Plain ∷ core.Map k b inner.Provider ∷ core.Map k b inner.Produced ∷ []
+forms_of_core (core.Map k b i) =
+    core.Map k b inner.Plain ∷ core.Map k b inner.Provider ∷ core.Map k b inner.Produced ∷ []
 forms_of_core (core.Optional b i) =
-    core.Optional b inner.Plain ∷ core.Optional b inner.Provider ∷ core.Optional b inner.Lazy ∷ core.Optional b inner.ProviderLazy ∷ []
+    core.Optional b inner.Plain ∷ core.Optional b inner.Provider ∷ core.Optional b inner.Lazy
+    ∷ core.Optional b inner.ProviderLazy ∷ []
 
 abbrev pub forms_of : Key → List Key
 forms_of k = map (λ c. record { qualifier = k.qualifier; core = c }) (forms_of_core k.core)
@@ -239,7 +260,8 @@ abbrev pub optional_forms : Key → List Key
 optional_forms k = of_core k.core
   where
     of_core : Core → List Key
-    of_core (core.One b) = forms_of (record { qualifier = k.qualifier; core = core.Optional b inner.Plain })
+    of_core (core.One b) =
+        forms_of (record { qualifier = k.qualifier; core = core.Optional b inner.Plain })
     of_core other = []
 
 -- the binding of a statement that is one, in any class
@@ -253,7 +275,7 @@ own_binding s = of_item s.index s.item
     of_item i (item.Class true scope n params interfaces) = binding.ClassItem i ∷ []
     of_item i other = []
 
--- the bound argument of a class that a statement declares, by its place among those of the class
+-- the bound argument of a class that a statement declares, by its number among those of the class
 abbrev pub own_argument : Doc → ℕ → Statement → List BindRef
 own_argument doc class s =
     map binding.Arg (option_to_list (position (λ b. b.index == s.index) (bound_lines doc class)))
@@ -261,18 +283,22 @@ own_argument doc class s =
 -- the exposed entries of a class stand on its header, by dependency and then by entry
 abbrev pub own_exposed : Doc → ℕ → Statement → List BindRef
 own_exposed doc class s =
-    if is_header_of doc class s then map (λ x. binding.Exposed x.dep x.entry) (exposed_of doc class) else []
+    if is_header_of doc class s then map (λ x. binding.Exposed x.dep x.entry) (exposed_of doc class)
+    else []
 
 abbrev pub own_entry : Doc → ℕ → Statement → List NodeKind
-own_entry doc class s = if list_any (λ i. i == s.index) (entries_of doc class) then node.EntryOf s.index ∷ [] else []
+own_entry doc class s =
+    if list_any (λ i. i == s.index) (entries_of doc class) then node.EntryOf s.index ∷ [] else []
 
--- the statement on which a set, map or optional stands in a class: its first contribution or declaration, in the first
--- class of the chain, from the root on, that has one
+-- the statement on which a set, map or optional stands in a class: its first contribution or
+-- declaration, in the first class of the chain, from the root on, that has one
 abbrev pub first_statement : Doc → ℕ → Key → Option ℕ
 first_statement doc class k =
-    option_map (λ b. b.item) (slice_get (flat_map (λ o. filter (opens_in doc k o) (bindings doc)) (root_first doc class)) 0)
+    option_map (λ b. b.item)
+    (slice_get (flat_map (λ o. filter (opens_in doc k o) (bindings doc)) (root_first doc class)) 0)
 
--- the sets, maps and optionals of which a statement is the first contribution or declaration, in each of their forms
+-- the sets, maps and optionals of which a statement is the first contribution or declaration, in
+-- each of their forms
 abbrev pub own_groups : Doc → ℕ → Statement → List NodeKind
 own_groups doc class s = flat_map groups (filter (λ b. b.item == s.index) (bindings doc))
   where
@@ -296,7 +322,8 @@ kinds_at doc class s =
 -- the default binding of one of Hilt's classes stands before all statements
 abbrev pub default_kind : Doc → ℕ → List NodeKind
 default_kind doc class =
-    if is_none (header_of doc class) && nat_lt 0 (length (bound_of doc class)) then node.Bound binding.Default ∷ [] else []
+    if is_none (header_of doc class) && nat_lt 0 (length (bound_of doc class))
+    then node.Bound binding.Default ∷ [] else []
 
 -- what may be a node of a class, in the order of nodes
 abbrev pub kinds_of : Doc → ℕ → List NodeKind
@@ -304,13 +331,14 @@ kinds_of doc class = default_kind doc class ++ flat_map (kinds_at doc class) (st
 
 -- what may be a node, in the order of nodes: by class, and within a class by statement
 unfoldable pub candidates : Doc → List Node
-candidates doc = flat_map (λ c. map (node_of c) (kinds_of doc c)) (range_with_len 0 (class_count doc))
+candidates doc =
+    flat_map (λ c. map (node_of c) (kinds_of doc c)) (range_with_len 0 (class_count doc))
 
 -- a walk of no more steps than there are candidates leads from an entry point to a node
 unfoldable pub is_reachable : Doc → Node → Bool
 is_reachable doc n = is_within same_node (targets doc) (length (candidates doc)) (entry_nodes doc) n
 
--- the nodes of a document, in order; the number of a node is its place in this list
+-- the nodes of a document, in order; the number of a node is its index in this list
 unfoldable pub nodes : Doc → List Node
 nodes doc = filter (is_reachable doc) (candidates doc)
 
@@ -353,7 +381,9 @@ abbrev pub called_edge : List Dependency → Bytes → Option EdgeTo
 called_edge ds name = option_and_then called (position (is_param name) ds)
   where
     called : ℕ → Option EdgeTo
-    called k = option_and_then (λ d. if is_called_mode d.mode then edge_to edge.Called (suc k) d else None) (slice_get ds k)
+    called k =
+        option_and_then (λ d. if is_called_mode d.mode then edge_to edge.Called (suc k) d else None)
+        (slice_get ds k)
 
 abbrev pub calls_of : Doc → Node → List Bytes
 calls_of doc n = of_kind n.kind
@@ -362,7 +392,8 @@ calls_of doc n = of_kind n.kind
     of_kind (node.Bound (binding.Member i)) = option_map_or called_params (item_at doc i) []
     of_kind other = []
 
--- the edges of a node: those of its dependencies in order, then those of the calls in its body in reading order
+-- the edges of a node: those of its dependencies in order, then those of the calls in its body in
+-- reading order
 unfoldable pub edges : Doc → Node → List EdgeTo
 edges doc n = needed_edges (deps doc n) ++ filter_map (called_edge (deps doc n)) (calls_of doc n)
 
@@ -372,7 +403,10 @@ number_of ns n = position (same_node n) ns
 -- the edges of a node, by the numbers of nodes
 unfoldable pub numbered_edges : Doc → Node → List Edge
 numbered_edges doc n =
-    filter_map (λ e. option_map (λ k. record { kind = e.kind; param = e.param; to = k }) (number_of (nodes doc) e.to)) (edges doc n)
+    filter_map
+    (λ e. option_map (λ k. record { kind = e.kind; param = e.param; to = k })
+    (number_of (nodes doc) e.to))
+    (edges doc n)
 
 -- ---- closed walks
 
@@ -415,12 +449,15 @@ OnCall doc n =
     (m t : Node) × IsReached (needed_targets doc) (n ∷ []) m × Contains (called_targets doc m) t
     × IsReached (needed_targets doc) (t ∷ []) n
 
--- the same, by walks of no more steps than there are nodes
+-- the same, by walks of no more steps than there are candidates
 unfoldable pub is_on_cycle : Doc → Node → Bool
-is_on_cycle doc n = is_within same_node (direct_targets doc) (length (nodes doc)) (direct_targets doc n) n
+is_on_cycle doc n =
+    is_within same_node (direct_targets doc) (length (candidates doc)) (direct_targets doc n) n
 
 unfoldable pub is_on_call : Doc → Node → Bool
-is_on_call doc n = list_any (λ m. leads (n ∷ []) m && list_any (λ t. leads (t ∷ []) n) (called_targets doc m)) (nodes doc)
+is_on_call doc n =
+    list_any (λ m. leads (n ∷ []) m && list_any (λ t. leads (t ∷ []) n) (called_targets doc m))
+    (candidates doc)
   where
     leads : List Node → Node → Bool
-    leads = is_within same_node (needed_targets doc) (length (nodes doc))
+    leads = is_within same_node (needed_targets doc) (length (candidates doc))

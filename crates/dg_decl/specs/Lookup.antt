@@ -80,8 +80,10 @@ abbrev pub role_of : Item → Option Role
 role_of (item.Provides mark scope n params result body) = bound_by_mark mark result
 role_of (item.Binds mark scope n param result) = bound_by_mark mark result
 role_of (item.Produces mark n params result body) = bound_by_mark mark result
-role_of (item.OptionalOf n result) = Some (record { mark = None; kind = kind.OptionalOf; result = result })
-role_of (item.Multibinds n result) = Some (record { mark = None; kind = kind.Declares; result = result })
+role_of (item.OptionalOf n result) =
+    Some (record { mark = None; kind = kind.OptionalOf; result = result })
+role_of (item.Multibinds n result) =
+    Some (record { mark = None; kind = kind.Declares; result = result })
 role_of other = None
 
 -- the key that a member binds, adds to or declares
@@ -95,7 +97,9 @@ abbrev pub binding_in : Statement → ℕ → Option Bind
 binding_in s m = option_and_then as_bind (role_of s.item)
   where
     as_bind : Role → Option Bind
-    as_bind r = option_map (λ k. record { item = s.index; «module» = m; key = k; kind = r.kind }) (key_of_role r)
+    as_bind r =
+        option_map (λ k. record { item = s.index; «module» = m; key = k; kind = r.kind })
+        (key_of_role r)
 
 abbrev pub binding_of : Statement → Option Bind
 binding_of s = option_and_then (binding_in s) s.block
@@ -148,7 +152,8 @@ explicit_default doc c k =
 -- what the dependencies of a class expose for this key
 abbrev pub explicit_exposed : Doc → ℕ → Key → List Owned
 explicit_exposed doc c k =
-    map (λ e. owned c (ref.Exposed e.dep e.entry)) (filter (λ e. same_key e.key k) (exposed_of doc c))
+    map (λ e. owned c (ref.Exposed e.dep e.entry))
+    (filter (λ e. same_key e.key k) (exposed_of doc c))
 
 -- a statement is the header of a class
 abbrev pub is_header_of : Doc → ℕ → Statement → Bool
@@ -158,13 +163,17 @@ is_header_of doc c s = is_number s.index (option_map (λ h. h.index) (header_of 
 abbrev pub bound_lines : Doc → ℕ → List Statement
 bound_lines doc c = filter (λ s. is_some (bound_in s.item)) (own_members doc c)
 
--- the bound argument of a class of this key that a statement declares, by its place among those of the class
+-- the bound argument of a class of this key that a statement declares, by its index among those of
+-- the class
 abbrev pub explicit_argument : Doc → ℕ → Key → Statement → List Owned
 explicit_argument doc c k s =
     if has_bound (bound_in s.item)
-    then option_to_list (option_map (λ place. owned c (ref.Arg place)) (position (λ b. b.index == s.index) (bound_lines doc c)))
+    then map (λ k. owned c (ref.Arg k)) (option_to_list index_of)
     else []
   where
+    index_of : Option ℕ
+    index_of = position (λ b. b.index == s.index) (bound_lines doc c)
+
     has_bound : Option Bound → Bool
     has_bound None = false
     has_bound (Some b) = has_key k b.shape
@@ -172,15 +181,18 @@ explicit_argument doc c k s =
 -- the module member that a statement is, where it binds this key in a class
 abbrev pub explicit_member : Doc → ℕ → Key → Statement → List Owned
 explicit_member doc c k s =
-    map (λ b. owned c (ref.Member b.item)) (filter (acts_in doc c is_explicit k) (option_to_list (binding_of s)))
+    map (λ b. owned c (ref.Member b.item))
+    (filter (acts_in doc c is_explicit k) (option_to_list (binding_of s)))
 
--- What a statement binds to a key in a class. The entries that its dependencies expose stand at its header.
+-- What a statement binds to a key in a class. The entries that its dependencies expose stand at its
+-- header.
 abbrev pub explicit_at : Doc → ℕ → Key → Statement → List Owned
 explicit_at doc c k s =
     (if is_header_of doc c s then explicit_exposed doc c k else [])
     ++ explicit_argument doc c k s ++ explicit_member doc c k s
 
--- the explicit bindings of a key in a class: Hilt's default binding, and then the others in order of lines
+-- the explicit bindings of a key in a class: Hilt's default binding, and then the others in order
+-- of lines
 unfoldable pub explicit : Doc → ℕ → Key → List Owned
 explicit doc c k = explicit_default doc c k ++ flat_map (explicit_at doc c k) (statements doc)
 
@@ -210,7 +222,8 @@ inside_key k = record { qualifier = k.qualifier; core = inside_core k.core }
 -- the contributions to a set or map that stand in modules installed in one class
 abbrev pub contributions_in : Doc → Key → ℕ → List Owned
 contributions_in doc k o =
-    map (λ b. owned o (ref.Member b.item)) (filter (acts_in doc o is_contribution (plain_key k)) (bindings doc))
+    map (λ b. owned o (ref.Member b.item))
+    (filter (acts_in doc o is_contribution (plain_key k)) (bindings doc))
 
 -- the contributions to a set or map that a class sees, those of the root class first
 unfoldable pub contributions : Doc → ℕ → Key → List Owned
@@ -218,13 +231,15 @@ contributions doc c k = flat_map (contributions_in doc k) (root_first doc c)
 
 -- a binding of this kind and key acts in a class of the chain
 abbrev pub acts_in_chain : Doc → ℕ → (BindKind → Bool) → Key → Bool
-acts_in_chain doc c is_kind k = list_any (λ o. list_any (acts_in doc o is_kind k) (bindings doc)) (chain doc c)
+acts_in_chain doc c is_kind k =
+    list_any (λ o. list_any (acts_in doc o is_kind k) (bindings doc)) (chain doc c)
 
 -- a `multibinds` line of the set or map stands in a module that is installed in the chain
 unfoldable pub is_declared : Doc → ℕ → Key → Bool
 is_declared doc c k = acts_in_chain doc c is_declaration (plain_key k)
 
--- a `bindsOptionalOf` line of the inside of an optional stands in a module that is installed in the chain
+-- a `bindsOptionalOf` line of the inside of an optional stands in a module that is installed in the
+-- chain
 unfoldable pub is_optional_declared : Doc → ℕ → Key → Bool
 is_optional_declared doc c k = acts_in_chain doc c is_optional (inside_key k)
 
@@ -238,8 +253,8 @@ opens_in doc k o b =
     is_optional_core (core.Optional b i) = true
     is_optional_core other = false
 
--- The line of a set, map or optional: that of its first contribution or declaration in the first class of the chain, from
--- the root on, that has one. It is 0 where none has.
+-- The line of a set, map or optional: that of its first contribution or declaration in the first
+-- class of the chain, from the root on, that has one. It is 0 where none has.
 unfoldable pub line_of_multi : Doc → ℕ → Key → ℕ
 line_of_multi doc c k =
     line_of (flat_map (λ o. filter (opens_in doc k o) (bindings doc)) (root_first doc c))
@@ -255,8 +270,8 @@ abbrev pub injected_scope : Item → Option (Option Bytes)
 injected_scope (item.Class true scope n params interfaces) = Some scope
 injected_scope other = None
 
--- a class of this item with `@Inject` as a class of components finds it: its own without a scope, and else of the nearest
--- class of the chain that carries the scope
+-- A class of this item with `@Inject`, as a component class finds it: its own where it has no
+-- scope, and else that of the nearest class of the chain that carries the scope.
 abbrev pub injected_with : Doc → ℕ → ℕ → Option Bytes → Found
 injected_with doc c i None = found.One c (ref.ClassItem i)
 injected_with doc c i (Some scope) = carried_by (find_first (carries doc scope) (chain doc c))
@@ -288,7 +303,8 @@ injected doc c (Some q) b = found.Nothing
 
 -- a set or map is there where it has a contribution or a declaration
 abbrev pub multi : Bool → (List Owned → Found) → List Owned → Found
-multi is_there found_as owned = if is_there || not (is_empty owned) then found_as owned else found.Nothing
+multi is_there found_as owned =
+    if is_there || not (is_empty owned) then found_as owned else found.Nothing
   where
     is_empty : List Owned → Bool
     is_empty [] = true
@@ -296,9 +312,12 @@ multi is_there found_as owned = if is_there || not (is_empty owned) then found_a
 
 -- what a class finds for a key without an explicit binding
 abbrev pub found_of_core : Doc → ℕ → Key → Core → Found
-found_of_core doc c k (core.Set b i) = multi (is_declared doc c k) found.SetOf (contributions doc c k)
-found_of_core doc c k (core.Map m b i) = multi (is_declared doc c k) found.MapOf (contributions doc c k)
-found_of_core doc c k (core.Optional b i) = if is_optional_declared doc c k then found.OptionalOf else found.Nothing
+found_of_core doc c k (core.Set b i) =
+    multi (is_declared doc c k) found.SetOf (contributions doc c k)
+found_of_core doc c k (core.Map m b i) =
+    multi (is_declared doc c k) found.MapOf (contributions doc c k)
+found_of_core doc c k (core.Optional b i) =
+    if is_optional_declared doc c k then found.OptionalOf else found.Nothing
 found_of_core doc c k (core.One b) = injected doc c k.qualifier b
 
 unfoldable pub find_without_explicit : Doc → ℕ → Key → Found

@@ -45,14 +45,18 @@ is_called name_in n s = is_it (name_in s.item)
     is_it None = false
     is_it (Some m) = bytes_eq m n
 
--- The first statement that declares a name outside blocks. A name that is predefined is declared by no statement, and a
--- name that is declared twice is its first declaration, whatever the kind of either.
+-- The first statement that declares a name outside blocks. A predefined name is declared by no
+-- statement, and a name that is declared twice is its first declaration, whatever the kinds are.
 unfoldable pub declared : Doc → Bytes → Option Statement
-declared doc n = if is_among n predefined_names then None else find (is_called outer_name n) (statements doc)
+declared doc n =
+    if is_among n predefined_names then None else find (is_called outer_name n) (statements doc)
 
 -- the index of the item that declares a name, where it is of this kind
 abbrev pub declared_as : (Item → Bool) → Doc → Bytes → Option ℕ
-declared_as is_kind doc n = option_and_then (λ s. if is_kind s.item then Some s.index else None) (declared doc n)
+declared_as is_kind doc n = option_and_then index_of_kind (declared doc n)
+  where
+    index_of_kind : Statement → Option ℕ
+    index_of_kind s = if is_kind s.item then Some s.index else None
 
 abbrev pub is_module : Item → Bool
 is_module (item.Module install n includes) = true
@@ -96,7 +100,8 @@ result_of other = None
 
 -- the one field of each of the classes whose objects Hilt binds by default: a text, its name
 abbrev pub default_fields : List Param
-default_fields = record { name = codes "name"; shape = record { qualifier = None; shape = shape.Text } } ∷ []
+default_fields =
+    record { name = codes "name"; shape = record { qualifier = None; shape = shape.Text } } ∷ []
 
 -- the fields of a class, one of Hilt's included
 unfoldable pub fields_of : Doc → Bytes → Option (List Param)

@@ -16,17 +16,17 @@ unfoldable pub items_of : List Bytes → List Item
 items_of lines = filter_map item_of lines
 
 -- a line's number before those of later lines, where the line has an item
-abbrev pub with_place : Option Item → ℕ → List ℕ → List ℕ
-with_place None n later = later
-with_place (Some item) n later = n ∷ later
+abbrev pub with_number : Option Item → ℕ → List ℕ → List ℕ
+with_number None n later = later
+with_number (Some item) n later = n ∷ later
 
 -- the number of each line that has an item, where the first line has this number
-abbrev pub places_from : ℕ → List Bytes → List ℕ
-places_from n [] = []
-places_from n (line ∷ lines) = with_place (item_of line) n (places_from (n + 1) lines)
+abbrev pub numbers_from : ℕ → List Bytes → List ℕ
+numbers_from n [] = []
+numbers_from n (line ∷ lines) = with_number (item_of line) n (numbers_from (n + 1) lines)
 
-unfoldable pub places_of : List Bytes → List ℕ
-places_of lines = places_from 1 lines
+unfoldable pub line_numbers_of : List Bytes → List ℕ
+line_numbers_of lines = numbers_from 1 lines
 
 -- an item may follow these: its form may stand there, and it is none too many of its kinds
 unfoldable pub may_follow : Item → List Item → Bool
@@ -63,7 +63,7 @@ pub record Reads (bytes : Bytes) (doc : Doc) : Type 0 where
   pub no_rest : rest_of bytes ≡ []
   pub closed : open_block (items_of (lines_of bytes)) ≡ None
   pub items : doc.items ≡ items_of (lines_of bytes)
-  pub lines : doc.lines ≡ places_of (lines_of bytes)
+  pub lines : doc.lines ≡ line_numbers_of (lines_of bytes)
 
 -- exactly one document is read, and no line is bad
 pub record IsReadOnce (bytes : Bytes) : Type 0 where

@@ -1,6 +1,6 @@
--- Which type an expression gives, and against which types it checks. The types are those of Dagger's documents; the
--- language of bodies is this project's own.
-use Rattle.std.specs.Prelude.{ℕ, Bool, true, false, ◌&&◌, ◌||◌, if◌then◌else◌, List, [], ◌∷◌, Option, Some, None, is_some, option_map, option_and_then}
+-- Which type an expression gives, and against which types it checks. The types are those of
+-- Dagger's documents; the language of bodies is this project's own.
+use Rattle.std.specs.Prelude.{Bool, true, false, ◌&&◌, ◌||◌, if◌then◌else◌, List, [], ◌∷◌, Option, Some, None, is_some, option_map, option_and_then}
 use Rattle.std.specs.List.{find, list_all}
 use Rattle.std.specs.Option.{option_map_or}
 use Rattle.std.specs.Str.{bytes_eq}
@@ -33,14 +33,17 @@ interfaces_in other = []
 
 -- the interfaces that a class lists
 abbrev pub interfaces_of : Doc → Bytes → List Bytes
-interfaces_of doc class = option_map_or interfaces_in (option_and_then (item_at doc) (class_item_named doc class)) []
+interfaces_of doc class =
+    option_map_or interfaces_in (option_and_then (item_at doc) (class_item_named doc class)) []
 
 -- the one is a class whose list has the other
 abbrev pub implements : Doc → Layer → Layer → Bool
-implements doc (Shape-F.Named class) (Shape-F.Named interface) = is_among interface (interfaces_of doc class)
+implements doc (Shape-F.Named class) (Shape-F.Named interface) =
+    is_among interface (interfaces_of doc class)
 implements doc other type = false
 
--- a value of the one type may stand where the other is wanted: they are equal, or a class has the interface
+-- a value of the one type may stand where the other is wanted: they are equal, or a class has the
+-- interface
 unfoldable pub is_assignable : Doc → Shape → Shape → Bool
 is_assignable doc from to = same_shape from to || implements doc (out-Shape from) (out-Shape to)
 
@@ -55,7 +58,8 @@ type_of_param params name = option_map (λ p. p.shape.shape) (find (is_named nam
 
 -- the type of a field of a class
 abbrev pub type_of_field : Doc → Layer → Bytes → Option Shape
-type_of_field doc (Shape-F.Named class) field = option_and_then (λ fields. type_of_param fields field) (fields_of doc class)
+type_of_field doc (Shape-F.Named class) field =
+    option_and_then (λ fields. type_of_param fields field) (fields_of doc class)
 type_of_field doc other field = None
 
 -- ---- parts of types
@@ -93,7 +97,8 @@ awaited_at other = None
 -- what `values` gives: `Set<B>` of `Set<Produced<B>>`, and `Map<K,B>` of `Map<K,Produced<B>>`
 abbrev pub values_at : Layer → Option Shape
 values_at (Shape-F.Set t) = option_map shape.Set (produced_at (out-Shape t))
-values_at (Shape-F.Map k t) = if is_some (kind_of k) then option_map (shape.Map k) (produced_at (out-Shape t)) else None
+values_at (Shape-F.Map k t) =
+    if is_some (kind_of k) then option_map (shape.Map k) (produced_at (out-Shape t)) else None
 values_at other = None
 
 abbrev pub is_optional_at : Layer → Bool
@@ -109,14 +114,19 @@ has_size_at other = false
 
 -- ---- expressions
 
--- what typing says of an expression: the type that it gives by itself, where it has one, and against which types it checks
+-- what typing says of an expression: the type that it gives by itself, where it has one, and
+-- against which types it checks
 pub record Typed : Type 0 where
   pub gives : Option Shape
   pub checks : Shape → Bool
 
 -- an expression that gives a type checks against each type to which that is assignable
 abbrev pub giving : Doc → Option Shape → Typed
-giving doc type = record { gives = type; checks = λ wanted. option_map_or (λ t. is_assignable doc t wanted) type false }
+giving doc type =
+    record {
+      gives = type;
+      checks = λ wanted. option_map_or (λ t. is_assignable doc t wanted) type false;
+    }
 
 -- an expression that has no type by itself
 abbrev pub checking : (Shape → Bool) → Typed
@@ -144,23 +154,32 @@ only other = None
 abbrev pub one_checks : List Typed → Shape → Bool
 one_checks args t = option_map_or (λ x. x.checks t) (only args) false
 
+-- the one argument gives a text, a set or a map
+abbrev pub one_has_size : List Typed → Bool
+one_has_size args = option_map_or (λ t. has_size_at (out-Shape t)) (given args) false
+  where
+    given : List Typed → Option Shape
+    given xs = option_and_then (λ x. x.gives) (only xs)
+
 -- each of the members checks against the base type of the set
 abbrev pub members_check : List Typed → Option Shape → Bool
 members_check args base = option_map_or (λ b. list_all (λ x. x.checks b) args) base false
 
 abbrev pub typed_call : Doc → CallName → List Typed → Typed
-typed_call doc call.Cat args = giving doc (if_so (list_all (λ x. x.checks shape.Text) args) shape.Text)
+typed_call doc call.Cat args =
+    giving doc (if_so (list_all (λ x. x.checks shape.Text) args) shape.Text)
 typed_call doc call.TextOf args = giving doc (if_so (one_checks args shape.Int) shape.Text)
-typed_call doc call.Size args =
-    giving doc (if_so (option_map_or (λ t. has_size_at (out-Shape t)) (option_and_then (λ x. x.gives) (only args)) false) shape.Int)
-typed_call doc call.SetOf args = checking (λ wanted. members_check args (element_at (out-Shape wanted)))
+typed_call doc call.Size args = giving doc (if_so (one_has_size args) shape.Int)
+typed_call doc call.SetOf args =
+    checking (λ wanted. members_check args (element_at (out-Shape wanted)))
 typed_call doc call.Fail args = checking (λ wanted. one_checks args shape.Text)
 
 abbrev pub type_by_name : List Param → ParamCall → Bytes → Option Shape
 type_by_name params by_name.Get p = part got_at (type_of_param params p)
 type_by_name params by_name.Value p = part produced_at (type_of_param params p)
 type_by_name params by_name.Values p = part values_at (type_of_param params p)
-type_by_name params by_name.Failure p = option_map (λ b. shape.Text) (part produced_at (type_of_param params p))
+type_by_name params by_name.Failure p =
+    option_map (λ b. shape.Text) (part produced_at (type_of_param params p))
 
 -- the B of an optional parameter, where the other checks against it
 abbrev pub typed_or_else : Option Shape → Typed → Option Shape
@@ -171,7 +190,8 @@ abbrev pub is_typed_at : Doc → List Param → Cond-F Bool Typed → Bool
 is_typed_at doc params (Cond-F.Equal a b) =
     (a.checks shape.Text && b.checks shape.Text) || (a.checks shape.Int && b.checks shape.Int)
 is_typed_at doc params (Cond-F.Less a b) = a.checks shape.Int && b.checks shape.Int
-is_typed_at doc params (Cond-F.Has p) = option_map_or (λ t. is_optional_at (out-Shape t)) (type_of_param params p) false
+is_typed_at doc params (Cond-F.Has p) =
+    option_map_or (λ t. is_optional_at (out-Shape t)) (type_of_param params p) false
 is_typed_at doc params (Cond-F.IsOk p) = is_some (part produced_at (type_of_param params p))
 
 -- what typing says of an expression of a line with these parameters, where it is known of its parts
@@ -180,14 +200,18 @@ typed_at doc params (Expr-F.Text t) = giving doc (Some shape.Text)
 typed_at doc params (Expr-F.Int n) = giving doc (Some shape.Int)
 typed_at doc params (Expr-F.Param p) = giving doc (type_of_param params p)
 typed_at doc params (Expr-F.New class args) =
-    giving doc (if_so (option_map_or (arguments_check args) (fields_of doc class) false) (shape.Named class))
-typed_at doc params (Expr-F.Field of field) = giving doc (part (λ t. type_of_field doc t field) of.gives)
-typed_at doc params (Expr-F.Sum a b) = giving doc (if_so (a.checks shape.Int && b.checks shape.Int) shape.Int)
+    giving doc (if_so (option_map_or (arguments_check args) (fields_of doc class) false)
+    (shape.Named class))
+typed_at doc params (Expr-F.Field of field) =
+    giving doc (part (λ t. type_of_field doc t field) of.gives)
+typed_at doc params (Expr-F.Sum a b) =
+    giving doc (if_so (a.checks shape.Int && b.checks shape.Int) shape.Int)
 typed_at doc params (Expr-F.If cond first other) =
     checking (λ wanted. cond && first.checks wanted && other.checks wanted)
 typed_at doc params (Expr-F.Call f args) = typed_call doc f args
 typed_at doc params (Expr-F.ByName f p) = giving doc (type_by_name params f p)
-typed_at doc params (Expr-F.OrElse p other) = giving doc (typed_or_else (part inside_at (type_of_param params p)) other)
+typed_at doc params (Expr-F.OrElse p other) =
+    giving doc (typed_or_else (part inside_at (type_of_param params p)) other)
 
 unfoldable pub typed : Doc → List Param → Expr → Typed
 typed doc params = fold-Expr Bool Typed (is_typed_at doc params) (typed_at doc params)

@@ -36,7 +36,7 @@ pub enum BindRef {
     Member(u32),
     /// The `@Inject` class of this index.
     ClassItem(u32),
-    /// A `bindsInstance` line of the owner, by its place in `Class::bound`.
+    /// A `bindsInstance` line of the owner, by its index in `Class::bound`.
     Arg(u32),
     /// The default binding of the owner, one of Hilt's classes.
     Default,

@@ -35,7 +35,7 @@ pub struct CompTree {
 /// An entry point of a component that another one depends on, as a binding of the latter.
 #[derive(Drop)]
 pub struct Exposed {
-    /// The place of the class in `deps` of the class that depends on it, counted from 0.
+    /// The index of the class in `deps` of the class that depends on it, counted from 0.
     pub dep: u32,
     /// The index of the entry point's item.
     pub entry: u32,

@@ -4,6 +4,7 @@
 
 mod binding;
 mod component;
+mod components_laws;
 mod document;
 mod expression;
 mod graph;
@@ -13,6 +14,10 @@ mod violation;
 
 pub use binding::{Bind, BindKind, BindRef, Found, Owned};
 pub use component::{Bound, Class, CompTree, Exposed};
+pub use components_laws::{
+    ancestors_are_walks, below_by_short_walks, chains_are_whole, chains_end_at_roots,
+    headers_have_their_numbers, reached_by_short_walks,
+};
 pub use document::{Doc, LineMeaning};
 pub use expression::{CallName, Cond, Expr, ParamCall, Tree};
 pub use graph::{BindGraph, Edge, EdgeKind, Node, NodeKind};

@@ -1,3 +1,15 @@
 pub mod OneReading
-mod NumberLemmas
-pub mod TokenLemmas
+pub mod ListLemmas
+pub mod SplitLemmas
+pub mod ReadingLemmas
+pub mod ConditionLemmas
+pub mod TableLemmas
+pub mod ComponentLemmas
+pub mod BindingLemmas
+pub mod KnownLemmas
+pub mod DraftLemmas
+pub mod ComponentBindingLemmas
+pub mod PrintLemmas
+pub mod EvaluationLemmas
+pub mod TotalityLemmas
+pub mod NumberLemmas

@@ -2,12 +2,12 @@
 use Rattle.std.proofs.Common.{◌≡◌, ◌⊎◌, inl, inr, ℕ, zero, suc, ◌+◌, ◌-◌, ◌<◌, ◌≤◌, Bool, true, false, List, [], ◌∷◌, length, Option, Some, None, refl, sym, ap, subst, ◌∙◌, arith}
 use Rattle.std.specs.Prelude.{IsSome}
 use Rattle.std.proofs.lemmas.Bool.{false≢true, cases_lt}
-use Rattle.dg_decl.specs.declared.document.Doc.{Doc}
-use Rattle.dg_decl.specs.declared.item.Item.{Item}
-use Rattle.dg_decl.specs.Bytes.{Bytes}
-use Rattle.dg_decl.specs.Lines.{lines_of, rest_of}
-use Rattle.dg_decl.specs.Blocks.{open_block}
-use Rattle.dg_decl.specs.Reading.{items_of, places_of, is_good_at, IsBad, bad_line, bad_rest, bad_end, FirstBad, Reads, IsReadOnce, IsRefusedOnce, OneReading}
+use Rattle.dg_early.specs.declared.document.Doc.{Doc}
+use Rattle.dg_early.specs.declared.item.Item.{Item}
+use Rattle.dg_lex.specs.Bytes.{Bytes}
+use Rattle.dg_early.specs.Lines.{lines_of, rest_of}
+use Rattle.dg_early.specs.Blocks.{open_block}
+use Rattle.dg_early.specs.Reading.{items_of, places_of, is_good_at, IsBad, bad_line, bad_rest, bad_end, FirstBad, Reads, IsReadOnce, IsRefusedOnce, OneReading}
 
 -- each number below k passes, or there is a first one that doesn't
 record IsFirstFailing (p : ℕ → Bool) (k n : ℕ) : Type 0 where

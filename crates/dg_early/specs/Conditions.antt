@@ -2,17 +2,17 @@
 use Rattle.std.specs.Prelude.{Bool, true, false, not, ◌&&◌, List, [], ◌∷◌, Option, Some, None, is_some, is_none, codes}
 use Rattle.std.specs.Str.{bytes_eq}
 use Rattle.std.specs.List.{list_any, list_all}
-use Rattle.dg_types.specs.declared.shape.Shape.{Shape}
-use Rattle.dg_types.specs.declared.shape.Shape.TheVariants as shape
-use Rattle.dg_types.specs.declared.shape.TypeUse.{TypeUse}
-use Rattle.dg_decl.specs.declared.expression.Expr.{Expr, Expr-F, out-Expr}
-use Rattle.dg_decl.specs.declared.item.Item.{Item}
-use Rattle.dg_decl.specs.declared.item.Item.TheVariants.{Class, Module, Component, Provides, Entry, End, OpenLine, AskLine}
-use Rattle.dg_decl.specs.declared.item.Param.{Param}
-use Rattle.dg_decl.specs.Bytes.{Bytes, is_among}
-use Rattle.dg_decl.specs.Blocks.{open_block, in_open_block, is_module_header, is_component_header}
-use Rattle.dg_decl.specs.Limits.{is_within_limits}
-use Rattle.dg_decl.specs.Lookup.{params_of, class_of, entry_of}
+use Rattle.dg_early.specs.declared.shape.Shape.{Shape}
+use Rattle.dg_early.specs.declared.shape.Shape.TheVariants as shape
+use Rattle.dg_early.specs.declared.shape.TypeUse.{TypeUse}
+use Rattle.dg_early.specs.declared.expression.Expr.{Expr, Expr-F, out-Expr}
+use Rattle.dg_early.specs.declared.item.Item.{Item}
+use Rattle.dg_early.specs.declared.item.Item.TheVariants.{Class, Module, Component, Provides, Entry, End, OpenLine, AskLine}
+use Rattle.dg_early.specs.declared.item.Param.{Param}
+use Rattle.dg_lex.specs.Bytes.{Bytes, is_among}
+use Rattle.dg_early.specs.Blocks.{open_block, in_open_block, is_module_header, is_component_header}
+use Rattle.dg_early.specs.Limits.{is_within_limits}
+use Rattle.dg_early.specs.Lookup.{params_of, class_of, entry_of}
 
 -- ---- the block
 

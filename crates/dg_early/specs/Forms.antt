@@ -2,21 +2,21 @@
 use Rattle.std.specs.Prelude.{ℕ, zero, suc, ◌-◌, Bool, true, false, ◌&&◌, if◌then◌else◌, ◌==◌, List, [], ◌∷◌, length, take, drop, map, Option, Some, None, codes, ℤ}
 use Rattle.std.specs.Str.{bytes_eq}
 use denote.Enum.Bare.{sameb}
-use Rattle.dg_types.specs.declared.shape.Shape.{Shape}
-use Rattle.dg_types.specs.declared.shape.Shape.TheVariants as shape
-use Rattle.dg_types.specs.declared.shape.TypeUse.{TypeUse}
-use Rattle.dg_decl.specs.contracts.lex.token.TokenKind.{the_type}
-use Rattle.dg_decl.specs.declared.limits.TheConstants.{LIST_LIMIT}
-use Rattle.dg_decl.specs.declared.lex.token.Token.{Token}
-use Rattle.dg_decl.specs.declared.lex.token.TokenKind.{TokenKind}
-use Rattle.dg_decl.specs.declared.lex.token.TokenKind.TheVariants as kind
-use Rattle.dg_decl.specs.declared.expression.Expr.{Expr}
-use Rattle.dg_decl.specs.declared.expression.Expr.TheVariants as expr
-use Rattle.dg_decl.specs.declared.item.Item.{Item}
-use Rattle.dg_decl.specs.declared.item.Item.TheVariants.{Class, Module, Component, Provides, Entry, End, OpenLine, AskLine}
-use Rattle.dg_decl.specs.declared.item.Param.{Param}
-use Rattle.dg_decl.specs.Bytes.{Bytes}
-use Rattle.dg_decl.specs.Tokens.{spelling_of, is_integer, value_of_integer}
+use Rattle.dg_early.specs.declared.shape.Shape.{Shape}
+use Rattle.dg_early.specs.declared.shape.Shape.TheVariants as shape
+use Rattle.dg_early.specs.declared.shape.TypeUse.{TypeUse}
+use Rattle.dg_lex.specs.contracts.token.TokenKind.{the_type}
+use Rattle.dg_early.specs.declared.limits.TheConstants.{LIST_LIMIT}
+use Rattle.dg_lex.specs.declared.token.Token.{Token}
+use Rattle.dg_lex.specs.declared.token.TokenKind.{TokenKind}
+use Rattle.dg_lex.specs.declared.token.TokenKind.TheVariants as kind
+use Rattle.dg_early.specs.declared.expression.Expr.{Expr}
+use Rattle.dg_early.specs.declared.expression.Expr.TheVariants as expr
+use Rattle.dg_early.specs.declared.item.Item.{Item}
+use Rattle.dg_early.specs.declared.item.Item.TheVariants.{Class, Module, Component, Provides, Entry, End, OpenLine, AskLine}
+use Rattle.dg_early.specs.declared.item.Param.{Param}
+use Rattle.dg_lex.specs.Bytes.{Bytes}
+use Rattle.dg_lex.specs.Tokens.{spelling_of, is_integer, value_of_integer}
 
 -- a token with the bytes that it takes of its line
 pub record Lexeme : Type 0 where

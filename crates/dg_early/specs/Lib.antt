@@ -1,6 +1,3 @@
-pub mod Bytes
-pub mod Tokens
-pub mod LexFaults
 pub mod Lines
 pub mod Forms
 pub mod Meaning
@@ -9,3 +6,17 @@ pub mod Lookup
 pub mod Limits
 pub mod Conditions
 pub mod Reading
+pub mod Gives
+pub mod First
+pub mod Drafts
+pub mod Tables
+pub mod Components
+pub mod Known
+pub mod Bindings
+pub mod Adding
+pub mod ReadFaults
+pub mod Evaluation
+pub mod Report
+pub mod Printing
+pub mod Rules
+pub mod Totality

@@ -1,9 +1,9 @@
 -- How many lines of each kind a document may have.
 use Rattle.std.specs.Prelude.{ℕ, Bool, true, false, not, ◌&&◌, ◌||◌, nat_lt, List}
 use Rattle.std.specs.List.{count_by}
-use Rattle.dg_decl.specs.declared.limits.TheConstants.{DECLARATION_LIMIT, COMPONENT_LIMIT, OPEN_LIMIT, ASK_LIMIT}
-use Rattle.dg_decl.specs.declared.item.Item.{Item}
-use Rattle.dg_decl.specs.declared.item.Item.TheVariants.{Component, End, OpenLine, AskLine}
+use Rattle.dg_early.specs.declared.limits.TheConstants.{DECLARATION_LIMIT, COMPONENT_LIMIT, OPEN_LIMIT, ASK_LIMIT}
+use Rattle.dg_early.specs.declared.item.Item.{Item}
+use Rattle.dg_early.specs.declared.item.Item.TheVariants.{Component, End, OpenLine, AskLine}
 
 abbrev pub is_open : Item → Bool
 is_open (OpenLine n c) = true

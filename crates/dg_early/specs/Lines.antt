@@ -1,8 +1,8 @@
 -- The lines of a document's bytes.
 use Rattle.std.specs.Prelude.{ℕ, Bool, ◌&&◌, if◌then◌else◌, ◌==◌, nat_le, List, [], ◌∷◌, length, drop, slice_index}
 use Rattle.std.specs.List.{list_all, list_any, prefix_len}
-use Rattle.dg_decl.specs.declared.limits.TheConstants.{LINE_LIMIT}
-use Rattle.dg_decl.specs.Bytes.{Bytes, line_end, is_plain}
+use Rattle.dg_early.specs.declared.limits.TheConstants.{LINE_LIMIT}
+use Rattle.dg_lex.specs.Bytes.{Bytes, line_end, is_plain}
 
 -- lines, the first of which begins with one more byte
 abbrev pub with_first : ℕ → List Bytes → List Bytes

@@ -2,15 +2,15 @@
 use Rattle.std.specs.Prelude.{Bool, true, false, List, [], ◌∷◌, Option, Some, None, if◌then◌else◌}
 use Rattle.std.specs.Str.{bytes_eq}
 use Rattle.std.specs.List.{filter_map}
-use Rattle.dg_types.specs.declared.shape.Shape.{Shape}
-use Rattle.dg_types.specs.declared.shape.Shape.TheVariants as shape
-use Rattle.dg_types.specs.declared.shape.TypeUse.{TypeUse}
-use Rattle.dg_decl.specs.declared.expression.Expr.{Expr}
-use Rattle.dg_decl.specs.declared.item.Item.{Item}
-use Rattle.dg_decl.specs.declared.item.Item.TheVariants.{Class, Module, Component, Provides, Entry, OpenLine}
-use Rattle.dg_decl.specs.declared.item.Param.{Param}
-use Rattle.dg_decl.specs.Bytes.{Bytes, is_among}
-use Rattle.dg_decl.specs.Blocks.{placed, is_header_of_component}
+use Rattle.dg_early.specs.declared.shape.Shape.{Shape}
+use Rattle.dg_early.specs.declared.shape.Shape.TheVariants as shape
+use Rattle.dg_early.specs.declared.shape.TypeUse.{TypeUse}
+use Rattle.dg_early.specs.declared.expression.Expr.{Expr}
+use Rattle.dg_early.specs.declared.item.Item.{Item}
+use Rattle.dg_early.specs.declared.item.Item.TheVariants.{Class, Module, Component, Provides, Entry, OpenLine}
+use Rattle.dg_early.specs.declared.item.Param.{Param}
+use Rattle.dg_lex.specs.Bytes.{Bytes, is_among}
+use Rattle.dg_early.specs.Blocks.{placed, is_header_of_component}
 
 -- a value, or else the other
 abbrev pub or_else : {B : Type 0} → Option B → Option B → Option B

@@ -1,13 +1,13 @@
 -- What a line says by itself.
 use Rattle.std.specs.Prelude.{ℕ, ◌||◌, List, Option, Some, None, Result, Ok, Err, if◌then◌else◌}
-use Rattle.dg_decl.specs.declared.lex.token.Token.{Token}
-use Rattle.dg_decl.specs.declared.document.LineMeaning.{LineMeaning}
-use Rattle.dg_decl.specs.declared.document.LineMeaning.TheVariants.{Bad, Nothing, Says}
-use Rattle.dg_decl.specs.declared.item.Item.{Item}
-use Rattle.dg_decl.specs.Bytes.{Bytes}
-use Rattle.dg_decl.specs.Lines.{is_printable, is_blank, is_comment}
-use Rattle.dg_decl.specs.Tokens.{tokens_of}
-use Rattle.dg_decl.specs.Forms.{Lexeme, lexemes, item_line}
+use Rattle.dg_lex.specs.declared.token.Token.{Token}
+use Rattle.dg_early.specs.declared.document.LineMeaning.{LineMeaning}
+use Rattle.dg_early.specs.declared.document.LineMeaning.TheVariants.{Bad, Nothing, Says}
+use Rattle.dg_early.specs.declared.item.Item.{Item}
+use Rattle.dg_lex.specs.Bytes.{Bytes}
+use Rattle.dg_early.specs.Lines.{is_printable, is_blank, is_comment}
+use Rattle.dg_lex.specs.Tokens.{tokens_of}
+use Rattle.dg_early.specs.Forms.{Lexeme, lexemes, item_line}
 
 -- the item that was read, where one was
 abbrev pub says : Option (Item × List Lexeme) → LineMeaning

@@ -1,15 +1,15 @@
 -- What is read from the bytes of a document, and which line is the first bad one.
 use Rattle.std.specs.Prelude.{◌≡◌, ◌≢◌, ◌⊎◌, ℕ, ◌+◌, ◌-◌, ◌<◌, ◌≤◌, Bool, true, false, List, [], ◌∷◌, length, take, slice_index_or, Option, Some, None, IsSome}
 use Rattle.std.specs.List.{filter_map}
-use Rattle.dg_decl.specs.declared.document.Doc.{Doc}
-use Rattle.dg_decl.specs.declared.document.LineMeaning.{LineMeaning}
-use Rattle.dg_decl.specs.declared.document.LineMeaning.TheVariants.{Bad, Nothing, Says}
-use Rattle.dg_decl.specs.declared.item.Item.{Item}
-use Rattle.dg_decl.specs.Bytes.{Bytes}
-use Rattle.dg_decl.specs.Lines.{lines_of, rest_of}
-use Rattle.dg_decl.specs.Meaning.{meaning_of, item_of}
-use Rattle.dg_decl.specs.Blocks.{open_block}
-use Rattle.dg_decl.specs.Conditions.{may_follow}
+use Rattle.dg_early.specs.declared.document.Doc.{Doc}
+use Rattle.dg_early.specs.declared.document.LineMeaning.{LineMeaning}
+use Rattle.dg_early.specs.declared.document.LineMeaning.TheVariants.{Bad, Nothing, Says}
+use Rattle.dg_early.specs.declared.item.Item.{Item}
+use Rattle.dg_lex.specs.Bytes.{Bytes}
+use Rattle.dg_early.specs.Lines.{lines_of, rest_of}
+use Rattle.dg_early.specs.Meaning.{meaning_of, item_of}
+use Rattle.dg_early.specs.Blocks.{open_block}
+use Rattle.dg_early.specs.Conditions.{may_follow}
 
 -- the items of lines, in order
 unfoldable pub items_of : List Bytes → List Item

@@ -1,4 +1,4 @@
-use dg_types::{Name, Text};
+use crate::{Name, Text};
 use sqlite_items::Items;
 
 /// What a member gives.

@@ -1,5 +1,5 @@
 use crate::expression::Expr;
-use dg_types::{Name, TypeUse};
+use crate::{Name, TypeUse};
 use sqlite_items::Items;
 
 /// A parameter of a class.

@@ -1,8 +1,5 @@
 //! How large the parts of a document may be, and how many lines of each kind it may have.
 
-/// The most bytes of a name.
-pub const NAME_LIMIT: usize = 64;
-
 /// The most bytes of a line, without the LF that ends it.
 pub const LINE_LIMIT: usize = 4096;
 

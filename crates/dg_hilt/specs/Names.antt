@@ -1,5 +1,7 @@
 -- The names that are declared before any line of a document.
-use Rattle.std.specs.Prelude.{List, [], ◌∷◌, ◌++◌, codes}
+use Rattle.std.specs.Prelude.{Bool, List, [], ◌∷◌, ◌++◌, codes}
+use Rattle.std.specs.List.{list_any}
+use Rattle.std.specs.Str.{bytes_eq}
 use Rattle.dg_hilt.specs.Bytes.{Bytes}
 use Rattle.dg_hilt.specs.Table.{hilt_names, default_classes}
 
@@ -48,5 +50,9 @@ scope_names =
 
 -- every name that is declared before any line: those of types, of qualifiers and of marks, and Hilt's components, scopes
 -- and classes of bound values
-abbrev pub predefined_names : List Bytes
+unfoldable pub predefined_names : List Bytes
 predefined_names = type_names ++ qualifier_names ++ mark_names ++ hilt_names ++ scope_names ++ default_classes
+
+-- a name is one of these
+unfoldable pub is_among : Bytes → List Bytes → Bool
+is_among name names = list_any (bytes_eq name) names

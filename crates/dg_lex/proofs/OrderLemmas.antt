@@ -10,7 +10,7 @@ use Rattle.dg_lex.specs.declared.token.TokenKind.{TokenKind}
 use Rattle.dg_lex.specs.declared.token.TokenKind.TheVariants as kind
 use Rattle.dg_lex.specs.Bytes.{Bytes, is_word_byte, is_among}
 use Rattle.dg_lex.specs.Tokens.{reserved, is_name, is_at_name, is_integer, is_text, is_sign, kind_of, quoted_len, extent, before, token_from, tokens_from, tokens_of}
-use Rattle.dg_lex.specs.LexLaws.{takes_run, are_spaces, IsTokenOf, LieInOrder, TokensLieInOrder, IsBadPlace, BadPlaces}
+use Rattle.dg_lex.specs.LexLaws.{takes_run, are_spaces, IsTokenOf, LieInOrder, TokensLieInOrder, NoTokenAt, NoTokenBegins}
 use Rattle.dg_lex.proofs.TokenLemmas.{bad_first, token_first, not_space}
 use Rattle.dg_lex.proofs.LongestLemmas.{begins_run, longest, no_name_34, no_at_name_34, no_integer_34, sign_no_name, sign_no_word, sign_no_at_name, sign_no_integer}
 
@@ -105,7 +105,7 @@ whole_run (b ∷ z) k some run is =
 -- what the tokens from a place on are: they lie in order, or there is a place at which none begins
 abbrev Outcome : Bytes → ℕ → Result (List Token) ℕ → Type 0
 Outcome line at (Ok ts) = LieInOrder line at ts
-Outcome line at (Err p) = IsBadPlace line p
+Outcome line at (Err p) = NoTokenAt line p
 
 abbrev is_space : Bytes → ℕ → Bool
 is_space line at = get_or line at 0 == 32
@@ -182,5 +182,5 @@ of_line line = outcome (length line) line 0 (omega arith)
 pub in_order : TokensLieInOrder
 in_order line ts found = subst (Outcome line 0) found (of_line line)
 
-pub bad_place : BadPlaces
-bad_place line at found = subst (Outcome line 0) found (of_line line)
+pub bad_byte : NoTokenBegins
+bad_byte line at found = subst (Outcome line 0) found (of_line line)

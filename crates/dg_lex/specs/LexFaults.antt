@@ -5,7 +5,7 @@ use Rattle.dg_lex.specs.declared.token.Token.{Token}
 use Rattle.dg_lex.specs.declared.token.LexFault.{LexFault}
 use Rattle.dg_lex.specs.declared.token.LexFault.TheVariants.{Bad, NoMemory}
 
--- Bad names the place that the definition names. Memory can lack only where the line isn't blank.
+-- Bad names the byte that the definition names. Memory can lack only where the line isn't blank.
 abbrev pub HasNoTokens : Result (List Token) ℕ → Result (Vec Token) LexFault → Type 0
 HasNoTokens tokens (Ok found) = Unit {0}
 HasNoTokens tokens (Err (Bad at)) = tokens ≡ Err at

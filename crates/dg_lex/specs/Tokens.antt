@@ -83,12 +83,12 @@ abbrev pub before : Token → Result (List Token) ℕ → Result (List Token) �
 before t (Ok ts) = Ok (t ∷ ts)
 before t (Err at) = Err at
 
--- the token of this kind that begins at a place
+-- the token of this kind that begins at a byte
 abbrev pub token_from : TokenKind → ℕ → ℕ → Token
 token_from kind at len = record { kind = kind; from = at; to = at + len }
 
--- The tokens from a place on, of which `left` bytes still belong to a token that began before: the tokens, or the
--- place at which none begins.
+-- The tokens from a byte on, of which `left` bytes still belong to a token that began before: the tokens, or the
+-- byte at which none begins.
 abbrev pub tokens_from : ℕ → ℕ → Bytes → Result (List Token) ℕ
 tokens_from left at [] = Ok []
 tokens_from (suc left) at (b ∷ z) = tokens_from left (at + 1) z
@@ -100,7 +100,7 @@ tokens_from zero at (b ∷ z) =
     token_then None at len rest = Err at
     token_then (Some kind) at len rest = before (token_from kind at len) rest
 
--- the tokens of a line, or the first place at which none begins
+-- the tokens of a line, or the first byte at which none begins
 unfoldable pub tokens_of : Bytes → Result (List Token) ℕ
 tokens_of line = tokens_from 0 0 line
 

@@ -11,7 +11,9 @@ mod text;
 mod token;
 
 pub use integer::value_of_integer;
-pub use laws::{bad_places, decimal_integers, no_longer_token, quoted_texts, tokens_lie_in_order};
+pub use laws::{
+    decimal_integers, no_longer_token, no_token_begins, quoted_texts, tokens_lie_in_order,
+};
 pub use scan::{spelling, tokens};
 pub use text::value_of_text;
 pub use token::{LexFault, Token, TokenKind};

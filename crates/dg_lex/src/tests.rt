@@ -1,14 +1,14 @@
 use crate::token::TokenKind::{AtName, Integer, Name, Sign, Text, Word};
 use crate::{
-    LexFault, Token, TokenKind, bad_places, decimal_integers, no_longer_token, quoted_texts,
+    LexFault, Token, TokenKind, decimal_integers, no_longer_token, no_token_begins, quoted_texts,
     spelling, tokens, tokens_lie_in_order, value_of_integer, value_of_text,
 };
 use std::test::Fail;
 
-/// A kind, and the places `from` and `to`.
+/// A kind, and the bytes `from` and `to`.
 type Want = (TokenKind, u32, u32);
 
-/// A line with its tokens, or with the first place at which none begins.
+/// A line with its tokens, or with the first byte at which none begins.
 type Row = (&'static str, Result<&'static [Want], u32>);
 
 const ROWS: &[Row] = &[
@@ -147,7 +147,7 @@ fn texts_have_these_values(rt: HostRuntime) -> Result<(), Fail> {
 fn the_laws_are_calls(_rt: HostRuntime) {
     no_longer_token();
     tokens_lie_in_order();
-    bad_places();
+    no_token_begins();
     quoted_texts();
     decimal_integers();
 }

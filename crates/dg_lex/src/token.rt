@@ -3,7 +3,7 @@ ghost use Rattle.dg_lex.specs.declared.token.LexFault.TheVariants.{NoMemory};
 
 use std::alloc::{AllocError, AllocFailed};
 
-/// What a token is. Words such as `module` are names, which have their meaning by their place.
+/// What a token is. Words such as `module` are names, which have their meaning by where they stand.
 #[derive(Clone, Copy, Debug, PartialEq, Eq)]
 pub enum TokenKind {
     /// A word that begins with a letter and isn't reserved. It has at most 64 bytes.
@@ -20,7 +20,7 @@ pub enum TokenKind {
     Sign,
 }
 
-/// A token, by the places of its line that it takes: the first is `from`, and `to` is the one after the last.
+/// A token, by the bytes of its line that it takes: the first is byte `from`, counted from 0, and `to` is the one after the last.
 #[derive(Clone, Copy, Debug, PartialEq, Eq)]
 pub struct Token {
     pub kind: TokenKind,
@@ -31,7 +31,7 @@ pub struct Token {
 /// Why a line has no tokens.
 #[derive(Clone, Copy, Debug, PartialEq, Eq)]
 pub enum LexFault {
-    /// No token begins at this place, and all before it are tokens and spaces.
+    /// No token begins at this byte, and all before it are tokens and spaces.
     Bad { at: u32 },
     /// There was no memory.
     NoMemory,

@@ -1,5 +1,6 @@
 pub mod Counts
 pub mod Marks
+pub mod Names
 pub mod Numberings
 pub mod Peels
 pub mod Repeats

@@ -1,8 +1,9 @@
-use Rattle.std.specs.Prelude.{◌≡◌, ◌+◌, ◌<◌, ◌≤◌, ◌↔◌, ℕ, zero, suc, Bool, false, IsTrue, List, length, slice_index_or, Contains}
+use Rattle.std.specs.Prelude.{◌≡◌, ◌+◌, ◌<◌, ◌≤◌, ◌↔◌, ℕ, zero, suc, Bool, false, IsTrue, List}
+use Rattle.std.specs.Prelude.{length, slice_index_or, Contains}
 use Rattle.dg_num.specs.declared.graph.Graph.{Graph}
 use Rattle.dg_num.specs.Graph.{node_count, successors}
 
--- a walk of this many edges leads from `a` to `b`, where the edges of each node lead to its `targets`
+-- a walk of this many edges leads from `a` to `b`; the edges of a node lead to its `targets`
 abbrev pub Walk : {N : Type 0} → (N → List N) → ℕ → N → N → Type 0
 Walk targets zero a b = a ≡ b
 Walk {N} targets (suc edges) a b = (c : N) × Contains (targets a) c × Walk targets edges c b
@@ -23,7 +24,7 @@ IsOnCycle targets node = (edges : ℕ) × (1 ≤ edges) × Walk targets edges no
 abbrev pub IsAcyclic : {N : Type 0} → (N → List N) → Type 0
 IsAcyclic {N} targets = (node : N) → IsOnCycle targets node → ⊥
 
--- a walk of this many nodes, one more than it has edges, begins at the node, and none that begins there has more
+-- a walk of this many nodes, one more than its edges, begins at the node, and no longer one does
 pub record IsRank {N : Type 0} (targets : N → List N) (node : N) (rank : ℕ) : Type 0 where
   pub walk : (edges : ℕ) × (last : N) × Walk targets edges node last × (rank ≡ edges + 1)
   pub longest : (edges : ℕ) (last : N) → Walk targets edges node last → edges + 1 ≤ rank
@@ -45,4 +46,5 @@ pub record TellsExactly (graph : Graph) (P : ℕ → Type 0) (entries : List Boo
 -- a number for each node, which is its rank
 pub record RanksExactly (graph : Graph) (ranks : List ℕ) : Type 0 where
   pub for_each_node : length ranks ≡ node_count graph
-  pub exact : (node : ℕ) → node < node_count graph → IsRank (successors graph) node (slice_index_or ranks node 0)
+  pub exact : (node : ℕ) → node < node_count graph
+      → IsRank (successors graph) node (slice_index_or ranks node 0)

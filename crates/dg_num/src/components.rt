@@ -1,4 +1,6 @@
-ghost use Rattle.std.specs.Prelude.{◌≡◌, ◌+◌, ◌-◌, ◌<◌, ◌≤◌, ◌⊎◌, ◌++◌, ◌∷◌, [], ℕ, All, Contains, IfOk, MatchOption, OnOk, false, true, length, slice_index, slice_index_or, slice_set, take, vec_len};
+ghost use Rattle.std.specs.Prelude.{◌≡◌, ◌+◌, ◌-◌, ◌<◌, ◌≤◌, ◌⊎◌, ◌++◌, ◌∷◌, [], ℕ, All, Contains};
+ghost use Rattle.std.specs.Prelude.{IfOk, MatchOption, OnOk, false, true, length, slice_index};
+ghost use Rattle.std.specs.Prelude.{slice_index_or, slice_set, take, vec_len};
 ghost use Rattle.dg_num.specs.Counts.{count_of, IsReversed};
 ghost use Rattle.dg_num.specs.Graph.{node_count, successors, HasEdge, IsSound};
 ghost use Rattle.dg_num.specs.Walks.{Leads};
@@ -9,10 +11,11 @@ use crate::peeling::row_lengths;
 use crate::reached::mark_new;
 use std::alloc::Global;
 
-/// Numbers the strongly connected components, so that two nodes have one number exactly where walks lead from
-/// each to the other, and no edge leads to a lower number. `turned` is the graph with its edges turned round.
-/// A search in depth puts the nodes into an order, and searches from them in that order, from its end, against
-/// the edges find the components. Time and memory grow with the nodes and edges.
+/// Numbers the strongly connected components, so that two nodes have one number exactly where walks
+/// lead from each to the other, and no edge leads to a lower number. `turned` is the graph with its
+/// edges turned round. A search in depth puts the nodes into an order, and searches from them in
+/// that order, from its end, against the edges find the components. Time and memory grow with the
+/// nodes and edges.
 pub(crate) fn component_numbers(
     alloc: Global,
     graph: &Graph,
@@ -25,7 +28,8 @@ pub(crate) fn component_numbers(
         → slice_index numbers.items a ≤ slice_index numbers.items b) }
     ensures same { IfOk result (λ numbers. (a b : ℕ)
         → a < node_count graph.now → b < node_count graph.now
-        → slice_index numbers.items a ≡ slice_index numbers.items b → Leads (successors graph.now) a b) }
+        → slice_index numbers.items a ≡ slice_index numbers.items b
+        → Leads (successors graph.now) a b) }
 {
     let order = finishing_order(alloc, graph)?;
     let mut numbers = vec![in alloc; 0usize; graph.next.len()]?;
@@ -50,8 +54,8 @@ pub(crate) fn component_numbers(
     }
 }
 
-/// The nodes in the order in which a search in depth leaves them. So an edge from one of the first nodes leads
-/// to one of them, or back to a node from which a walk leads to the last of them.
+/// The nodes in the order in which a search in depth leaves them. So an edge from one of the first
+/// nodes leads to one of them, or back to a node from which a walk leads to the last of them.
 pub(crate) fn finishing_order(alloc: Global, graph: &Graph) -> Result<Vec<u32>, NoMemory>
     requires { IsSound graph.now }
     ensures nodes { IfOk result (λ order. All (λ node. node < node_count graph.now) order.items) }
@@ -59,7 +63,8 @@ pub(crate) fn finishing_order(alloc: Global, graph: &Graph) -> Result<Vec<u32>, 
         → count_of order.items node ≡ 1) }
     ensures edges { IfOk result (λ order. (i k after : ℕ) → i ≤ k → k < length order.items
         → HasEdge graph.now (slice_index order.items i) after
-        → Contains (take (k + 1) order.items) after ⊎ Leads (successors graph.now) after (slice_index order.items k)) }
+        → Contains (take (k + 1) order.items) after
+        ⊎ Leads (successors graph.now) after (slice_index order.items k)) }
 {
     let mut left = row_lengths(alloc, graph)?;
     let mut seen = vec![in alloc; false; graph.next.len()]?;
@@ -91,7 +96,8 @@ fn next_edge(graph: &Graph, node: u32, left: &mut Vec<usize>) -> Option<u32>
     ensures len { vec_len left.new ≡ vec_len left.old }
     ensures cases { MatchOption result
         ((slice_index left.old.items node ≡ 0) × (left.new.items ≡ left.old.items))
-        (λ after. (left.new.items ≡ slice_set left.old.items node (slice_index left.old.items node - 1))
+        (λ after. (left.new.items
+        ≡ slice_set left.old.items node (slice_index left.old.items node - 1))
         × (1 ≤ slice_index left.old.items node)
         × (after ≡ slice_index (successors graph.now node) (slice_index left.old.items node - 1))) }
 {

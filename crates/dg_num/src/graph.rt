@@ -5,8 +5,9 @@ ghost use Rattle.dg_num.specs.Graph.{node_count, row_at, successors, IsSound};
 use crate::memory::NoMemory;
 use std::alloc::Global;
 
-/// A graph over the nodes 0, 1, 2 and so on. An edge may lead back to its own node, and several edges may
-/// join the same two nodes. A graph that is sound has fewer than 2^32 nodes, and its edges lead to nodes.
+/// A graph over the nodes 0, 1, 2 and so on. An edge may lead back to its own node, and several
+/// edges may join the same two nodes. A graph that is sound has fewer than 2^32 nodes, and its
+/// edges lead to nodes.
 #[derive(Debug, Drop)]
 pub struct Graph {
     /// For each node, in order, the nodes that its edges lead to.
@@ -54,7 +55,8 @@ fn push_to_each(rows: &mut Vec<Vec<u32>>, list: &[u32], number: u32) -> Result<(
     ensures more { OnOk result ((index : ℕ) → count_of (row_at rows.new.items index) number
         ≡ count_of (row_at rows.old.items index) number + count_of list.now index) }
     ensures others { OnOk result ((index other : ℕ) → other ≢ number
-        → count_of (row_at rows.new.items index) other ≡ count_of (row_at rows.old.items index) other) }
+        → count_of (row_at rows.new.items index) other
+        ≡ count_of (row_at rows.old.items index) other) }
 {
     for &index in list {
         push_at(rows, index, number)?;

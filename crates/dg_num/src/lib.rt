@@ -1,5 +1,5 @@
-//! Graphs whose nodes are numbers: which nodes walks reach, which lie on cycles, how long the longest walks
-//! are, and what the nodes weigh with all that they lead to.
+//! Graphs whose nodes are numbers: which nodes walks reach, which lie on cycles, how long the
+//! longest walks are, and what the nodes weigh with all that they lead to.
 #![tactic(auto)]
 
 mod components;

@@ -1,4 +1,5 @@
-ghost use Rattle.std.specs.Prelude.{◌≡◌, ◌≢◌, ◌+◌, ◌^◌, ◌<◌, ◌≤◌, ◌⊎◌, ℕ, All, Contains, IfOk, OnOk, length, slice_index, vec_len};
+ghost use Rattle.std.specs.Prelude.{◌≡◌, ◌≢◌, ◌+◌, ◌^◌, ◌<◌, ◌≤◌, ◌⊎◌, ℕ, All, Contains, IfOk};
+ghost use Rattle.std.specs.Prelude.{OnOk, length, slice_index, vec_len};
 ghost use Rattle.dg_num.specs.Counts.{count_of, one_at_zero, IsReversed};
 ghost use Rattle.dg_num.specs.Graph.{node_count, successors, HasEdge, IsSound};
 ghost use Rattle.dg_num.specs.Walks.{IsRank};
@@ -7,9 +8,9 @@ use crate::graph::Graph;
 use crate::memory::NoMemory;
 use std::alloc::Global;
 
-/// The rank of each node from which no walk comes to a cycle, and 0 for the others, by counts of the edges
-/// whose ends have no rank yet. `turned` is the graph with its edges turned round. Time and memory grow with
-/// the nodes and edges.
+/// The rank of each node from which no walk comes to a cycle, and 0 for the others, by counts of
+/// the edges whose ends have no rank yet. `turned` is the graph with its edges turned round. Time
+/// and memory grow with the nodes and edges.
 pub(crate) fn peel(alloc: Global, graph: &Graph, turned: &Graph) -> Result<Vec<u32>, NoMemory>
     requires graph { IsSound graph.now }
     requires turned { IsReversed graph.now turned.now }
@@ -77,8 +78,8 @@ fn rank_above(ranks: &[u32], row: &[u32]) -> u32
     rank
 }
 
-/// Takes 1 from the count of each node in the row, as often as it stands there, and lists those that come
-/// to 0.
+/// Takes 1 from the count of each node in the row, as often as it stands there, and lists those
+/// that come to 0.
 fn release(missing: &mut Vec<usize>, ready: &mut Vec<u32>, row: &[u32]) -> Result<(), NoMemory>
     requires within { All (λ node. node < vec_len missing.old) row.now }
     requires ready_within { All (λ node. node < vec_len missing.old) ready.old.items }
@@ -87,7 +88,8 @@ fn release(missing: &mut Vec<usize>, ready: &mut Vec<u32>, row: &[u32]) -> Resul
     ensures len { vec_len missing.new ≡ vec_len missing.old }
     ensures ready_within { OnOk result (All (λ node. node < vec_len missing.old) ready.new.items) }
     ensures less { OnOk result ((node : ℕ) → node < vec_len missing.old
-        → slice_index missing.new.items node + count_of row.now node ≡ slice_index missing.old.items node) }
+        → slice_index missing.new.items node + count_of row.now node
+        ≡ slice_index missing.old.items node) }
     ensures ready { OnOk result ((node : ℕ) → node < vec_len missing.old
         → count_of ready.new.items node + one_at_zero (slice_index missing.old.items node)
         ≡ count_of ready.old.items node + one_at_zero (slice_index missing.new.items node)) }

@@ -1,4 +1,5 @@
-ghost use Rattle.std.specs.Prelude.{◌≡◌, ◌≢◌, ◌^◌, ◌<◌, ◌≤◌, ◌↔◌, ℕ, IfOk, IsTrue, SomeIndex, length, slice_index};
+ghost use Rattle.std.specs.Prelude.{◌≡◌, ◌≢◌, ◌^◌, ◌<◌, ◌≤◌, ◌↔◌, ℕ, IfOk, IsTrue, SomeIndex};
+ghost use Rattle.std.specs.Prelude.{length, slice_index};
 ghost use Rattle.dg_num.specs.Graph.{successors, IsSound};
 ghost use Rattle.dg_num.specs.Walks.{IsLeastOnCycle, IsTrueAt, RanksExactly};
 
@@ -13,7 +14,7 @@ use std::alloc::Global;
 pub enum RankFault {
     /// Some nodes lie on cycles, and this is the least of them.
     Cyclic { node: u32 },
-    /// There was no memory for what the call makes. What was lent to it is as it was before.
+    /// There was no memory for what the call makes.
     NoMemory,
 }
 
@@ -27,13 +28,14 @@ impl From<NoMemory> for RankFault {
     }
 }
 
-/// For each node, the number of nodes on the longest walk that begins there: 1 where no edge leads on.
-/// Time and memory grow with the nodes and edges.
+/// For each node, the number of nodes on the longest walk that begins there: 1 where no edge leads
+/// on. Time and memory grow with the nodes and edges.
 pub fn ranks(alloc: Global, graph: &Graph) -> Result<Vec<u32>, RankFault>
     requires { IsSound graph.now }
     ensures exact { IfOk result (λ ranks. RanksExactly graph.now ranks.items) }
     ensures cause { result ≢ Err RankFault.NoMemory
-        → (node : ℕ) → (result ≡ Err (RankFault.Cyclic node)) ↔ IsLeastOnCycle (successors graph.now) node }
+        → (node : ℕ) → (result ≡ Err (RankFault.Cyclic node))
+        ↔ IsLeastOnCycle (successors graph.now) node }
 {
     let turned = reversed(alloc, graph)?;
     let ranks = peel(alloc, graph, &turned)?;

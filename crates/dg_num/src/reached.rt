@@ -1,4 +1,5 @@
-ghost use Rattle.std.specs.Prelude.{◌≡◌, ◌+◌, ◌<◌, ◌↔◌, ◌++◌, ℕ, List, not, All, Contains, IfOk, OnOk, count_by, vec_len};
+ghost use Rattle.std.specs.Prelude.{◌≡◌, ◌+◌, ◌<◌, ◌↔◌, ◌++◌, ℕ, List, not, All, Contains, IfOk};
+ghost use Rattle.std.specs.Prelude.{OnOk, count_by, vec_len};
 ghost use Rattle.dg_num.specs.Graph.{node_count, successors, IsSound};
 ghost use Rattle.dg_num.specs.Walks.{IsTrueAt, IsReached, TellsExactly};
 
@@ -6,8 +7,8 @@ use crate::graph::Graph;
 use crate::memory::NoMemory;
 use std::alloc::Global;
 
-/// Whether a walk leads to each node from one of `from`; a walk of no edge leads to each of `from` itself.
-/// Time and memory grow with the nodes and edges and with the length of `from`.
+/// Whether a walk leads to each node from one of `from`; a walk of no edge leads to each of `from`
+/// itself. Time and memory grow with the nodes and edges and with the length of `from`.
 pub fn reach(alloc: Global, graph: &Graph, from: &[u32]) -> Result<Vec<bool>, NoMemory>
     requires graph { IsSound graph.now }
     requires from { All (λ node. node < node_count graph.now) from.now }
@@ -26,8 +27,8 @@ pub fn reach(alloc: Global, graph: &Graph, from: &[u32]) -> Result<Vec<bool>, No
     Ok(marks)
 }
 
-/// Marks the nodes of `row` that have no mark yet, and puts each of them at the end of the queue, which so has the
-/// marked nodes.
+/// Marks the nodes of `row` that have no mark yet, and puts each of them at the end of the queue,
+/// which so has the marked nodes.
 pub(crate) fn mark_new(
     marks: &mut Vec<bool>,
     queue: &mut Vec<u32>,
@@ -36,7 +37,8 @@ pub(crate) fn mark_new(
     requires row { All (λ node. node < vec_len marks.old) row.now }
     requires marked { (node : ℕ) → IsTrueAt marks.old.items node ↔ Contains queue.old.items node }
     ensures len { vec_len marks.new ≡ vec_len marks.old }
-    ensures marked { OnOk result ((node : ℕ) → IsTrueAt marks.new.items node ↔ Contains queue.new.items node) }
+    ensures marked { OnOk result ((node : ℕ) → IsTrueAt marks.new.items node
+        ↔ Contains queue.new.items node) }
     ensures added { OnOk result ((added : List ℕ) × (queue.new.items ≡ queue.old.items ++ added)
         × All (Contains row.now) added × All (λ node. IsTrueAt marks.old.items node → ⊥) added) }
     ensures row { OnOk result (All (IsTrueAt marks.new.items) row.now) }

@@ -21,7 +21,7 @@ pub struct Input {
     pub slot: u32,
     /// How many parents up the other slot's instance is.
     pub level: u32,
-    /// The place of a dependency of the instance's class, counted from 0: then the other slot's instance is on the chain
+    /// The index of a dependency of the instance's class, counted from 0: then the other slot's instance is on the chain
     /// of that dependency's instance, and `level` counts from there.
     pub dep: Option<u32>,
 }
@@ -37,7 +37,7 @@ pub enum Body {
     Map(Items<MapKeyVal>),
     /// An optional, present or absent.
     Opt(bool),
-    /// The bound argument of this place in `Class::bound`, counted from 0.
+    /// The bound argument of this index in `Class::bound`, counted from 0.
     Arg(u32),
     /// The one request of an entry point.
     EntryOf,

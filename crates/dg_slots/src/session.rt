@@ -31,7 +31,7 @@ pub enum PathStep {
 pub struct Ask {
     /// The number of the instance.
     pub inst: u32,
-    /// The place of the entry point in `Class::entries`, counted from 0.
+    /// The index of the entry point in `Class::entries`, counted from 0.
     pub entry: u32,
     pub steps: Items<PathStep>,
 }

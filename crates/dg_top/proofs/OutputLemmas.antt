@@ -4,16 +4,16 @@ use Rattle.std.specs.Prelude.{◌≢◌, codes, decimal}
 use Rattle.std.specs.List.{flat_map}
 use Rattle.std.proofs.lemmas.Bool.{cases_lt}
 use Rattle.std.proofs.lemmas.List.{length-append}
-use Rattle.dg_decl.specs.declared.document.Doc.{Doc}
-use Rattle.dg_decl.specs.Bytes.{Bytes, line_end}
-use Rattle.dg_decl.specs.Reading.{FirstBad, Reads, IsReadOnce, IsRefusedOnce}
-use Rattle.dg_decl.proofs.OneReading.{reads_once}
+use Rattle.dg_early.specs.declared.document.Doc.{Doc}
+use Rattle.dg_lex.specs.Bytes.{Bytes, line_end}
+use Rattle.dg_early.specs.Reading.{FirstBad, Reads, IsReadOnce, IsRefusedOnce}
+use Rattle.dg_early.proofs.OneReading.{reads_once}
 use Rattle.dg_top.specs.declared.status.Status.{Status}
 use Rattle.dg_top.specs.declared.status.Status.TheVariants.{Ran, Refused, BadWords, BadLine, TooLong}
 use Rattle.dg_top.specs.Output.{document_limit, too_long_text, bad_line_text, IsOutput, bad_words, too_long, bad_line, refused, ran, HasOneOutput, OneOutput}
-use Rattle.dg_top.specs.declared.rules.violation.Violation.{Violation}
-use Rattle.dg_top.specs.Report.{replies, asks_of, cell_count, report}
-use Rattle.dg_top.specs.Rules.{violations, head_of, line_of, diagnostics}
+use Rattle.dg_early.specs.declared.rules.violation.Violation.{Violation}
+use Rattle.dg_early.specs.Report.{replies, asks_of, cell_count, report}
+use Rattle.dg_early.specs.Rules.{violations, head_of, line_of, diagnostics}
 
 same_line : (bytes : Bytes) (m n : ℕ) → IsReadOnce bytes ⊎ IsRefusedOnce bytes → FirstBad bytes m → FirstBad bytes n → n ≡ m
 same_line bytes m n (inl r) f g = absurd (r.none_bad m f)

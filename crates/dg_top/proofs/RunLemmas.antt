@@ -5,13 +5,13 @@ use Rattle.std.specs.List.{flat_map}
 use Rattle.std.specs.Io.KnownBytes.{Appends, Consumes, IsAtEnd}
 use Rattle.std.proofs.lemmas.Bool.{eqb-true, eqb-false}
 use Rattle.std.proofs.lemmas.List.{append-nil, append_cancel_left, length-append, length-take, length-map, nil_from_length}
-use Rattle.dg_decl.specs.Bytes.{Bytes}
-use Rattle.dg_decl.specs.declared.document.Doc.{Doc}
-use Rattle.dg_decl.specs.declared.item.Item.{Item}
-use Rattle.dg_decl.specs.Reading.{FirstBad, Reads}
-use Rattle.dg_top.specs.Report.{report}
-use Rattle.dg_top.specs.declared.rules.violation.Violation.{Violation}
-use Rattle.dg_top.specs.Rules.{violations, line_of, diagnostics}
+use Rattle.dg_lex.specs.Bytes.{Bytes}
+use Rattle.dg_early.specs.declared.document.Doc.{Doc}
+use Rattle.dg_early.specs.declared.item.Item.{Item}
+use Rattle.dg_early.specs.Reading.{FirstBad, Reads}
+use Rattle.dg_early.specs.Report.{report}
+use Rattle.dg_early.specs.declared.rules.violation.Violation.{Violation}
+use Rattle.dg_early.specs.Rules.{violations, line_of, diagnostics}
 use Rattle.dg_top.specs.declared.status.Status.{Status}
 use Rattle.dg_top.specs.declared.status.Status.TheVariants.{Ran, Refused, BadWords, BadLine, ReadFault, WriteFault, NoMemory, TooLong}
 use Rattle.dg_top.specs.Output.{document_limit, too_long_text, bad_line_text, IsOutput, bad_words, too_long, bad_line, refused, ran}

@@ -2,7 +2,7 @@
 use Rattle.std.proofs.Common.{[], ◌++◌, Option, Some, None, refl, sym, ap, ◌∙◌, append_assoc}
 use Rattle.std.specs.Io.KnownBytes.{Appends, Consumes}
 use Rattle.std.proofs.lemmas.List.{append-nil}
-use Rattle.dg_decl.specs.Bytes.{Bytes}
+use Rattle.dg_lex.specs.Bytes.{Bytes}
 
 pub appends_none : (known : Option Bytes) → Appends known known []
 appends_none None = tt

@@ -3,10 +3,10 @@ use Rattle.std.specs.Prelude.{◌≡◌, ◌≢◌, ◌≤◌, ◌+◌, List, []
 use Rattle.std.specs.Io.KnownBytes.{Consumes, IsAtEnd}
 use Rattle.dg_top.specs.declared.status.Status.{Status}
 use Rattle.dg_top.specs.declared.status.Status.TheVariants.{Ran, Refused, TooLong}
-use Rattle.dg_decl.specs.declared.item.Item.{Item}
-use Rattle.dg_decl.specs.Bytes.{Bytes}
-use Rattle.dg_top.specs.Report.{report}
-use Rattle.dg_top.specs.Rules.{violations, diagnostics}
+use Rattle.dg_early.specs.declared.item.Item.{Item}
+use Rattle.dg_lex.specs.Bytes.{Bytes}
+use Rattle.dg_early.specs.Report.{report}
+use Rattle.dg_early.specs.Rules.{violations, diagnostics}
 use Rattle.dg_top.specs.Output.{document_limit, too_long_text, IsOutput}
 use Rattle.dg_top.specs.Runs.{TakesExactly}
 

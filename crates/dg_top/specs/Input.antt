@@ -3,7 +3,7 @@ use Rattle.std.specs.Prelude.{◌≡◌, ℕ, ◌+◌, ◌≤◌, length, Option
 use Rattle.std.specs.Global.{Vec}
 use Rattle.std.specs.Io.KnownBytes.{Consumes, IsAtEnd}
 use Rattle.dg_io.specs.Causes.{Rose}
-use Rattle.dg_decl.specs.Bytes.{Bytes}
+use Rattle.dg_lex.specs.Bytes.{Bytes}
 use Rattle.dg_top.specs.declared.input.InputFault.{InputFault}
 use Rattle.dg_top.specs.declared.input.InputFault.TheVariants as fault
 use Rattle.dg_top.specs.Output.{document_limit}

@@ -1,17 +1,3 @@
-pub mod Gives
-pub mod First
-pub mod Drafts
-pub mod Tables
-pub mod Components
-pub mod Known
-pub mod Bindings
-pub mod Adding
-pub mod ReadFaults
-pub mod Evaluation
-pub mod Report
-pub mod Printing
-pub mod Rules
-pub mod Totality
 pub mod Status
 pub mod Output
 pub mod Runs

@@ -2,11 +2,11 @@
 use Rattle.std.specs.Prelude.{◌≡◌, ◌≢◌, ◌<◌, ◌≤◌, ℕ, List, [], ◌∷◌, ◌++◌, length, codes, decimal}
 use Rattle.dg_top.specs.declared.status.Status.{Status}
 use Rattle.dg_top.specs.declared.status.Status.TheVariants.{Ran, Refused, BadWords, BadLine, TooLong}
-use Rattle.dg_decl.specs.declared.document.Doc.{Doc}
-use Rattle.dg_decl.specs.Bytes.{Bytes, line_end}
-use Rattle.dg_decl.specs.Reading.{FirstBad, Reads}
-use Rattle.dg_top.specs.Report.{report}
-use Rattle.dg_top.specs.Rules.{violations, diagnostics}
+use Rattle.dg_early.specs.declared.document.Doc.{Doc}
+use Rattle.dg_lex.specs.Bytes.{Bytes, line_end}
+use Rattle.dg_early.specs.Reading.{FirstBad, Reads}
+use Rattle.dg_early.specs.Report.{report}
+use Rattle.dg_early.specs.Rules.{violations, diagnostics}
 
 -- the most bytes of a document
 abbrev pub document_limit : ℕ

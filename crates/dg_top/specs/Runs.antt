@@ -4,10 +4,10 @@ use Rattle.std.specs.Io.KnownBytes.{Appends, Consumes}
 use Rattle.dg_io.specs.Causes.{Rose}
 use Rattle.dg_top.specs.declared.status.Status.{Status}
 use Rattle.dg_top.specs.declared.status.Status.TheVariants.{Ran, Refused, BadWords, BadLine, ReadFault, WriteFault, NoMemory, TooLong}
-use Rattle.dg_decl.specs.Bytes.{Bytes}
-use Rattle.dg_decl.specs.declared.document.Doc.{Doc}
-use Rattle.dg_decl.specs.Reading.{FirstBad, Reads}
-use Rattle.dg_top.specs.Rules.{violations, diagnostics}
+use Rattle.dg_lex.specs.Bytes.{Bytes}
+use Rattle.dg_early.specs.declared.document.Doc.{Doc}
+use Rattle.dg_early.specs.Reading.{FirstBad, Reads}
+use Rattle.dg_early.specs.Rules.{violations, diagnostics}
 use Rattle.dg_top.specs.Output.{document_limit, too_long_text, bad_line_text, IsOutput}
 
 -- the known bytes are followed by the whole output for these words and bytes

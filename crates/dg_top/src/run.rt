@@ -1,22 +1,20 @@
 //! A run of `dagrun`.
 
-ghost use Rattle.std.specs.Prelude.{◌≡◌, ◌≢◌, ◌⊎◌, ◌↔◌, ◌≤◌, ◌+◌, [], length, map, vec_len, string_bytes, IfOk, IfErr};
+ghost use Rattle.std.specs.Prelude.{◌≡◌, ◌≢◌, ◌⊎◌, ◌↔◌, ◌≤◌, ◌+◌, [], length, map, vec_len};
+ghost use Rattle.std.specs.Prelude.{string_bytes, IfOk, IfErr};
 ghost use Rattle.std.specs.Io.KnownBytes.{Appends, IsAtEnd};
 ghost use Rattle.dg_io.specs.Causes.{Rose};
-ghost use Rattle.dg_top.specs.Output.{document_limit, too_long_text, bad_line_text, IsOutput, OneOutput};
-ghost use Rattle.dg_top.specs.Runs.{Writes, TakesAtMost, BadLineExactly, RefusedExactly, TooLongExactly, IsComplete};
+ghost use Rattle.dg_top.specs.Output.{document_limit, too_long_text, bad_line_text};
+ghost use Rattle.dg_top.specs.Output.{IsOutput, OneOutput};
+ghost use Rattle.dg_top.specs.Runs.{Writes, TakesAtMost, IsComplete};
+ghost use Rattle.dg_top.specs.Runs.{BadLineExactly, RefusedExactly, TooLongExactly};
 ghost use Rattle.dg_top.specs.Answers.{Answers, AnswersItems};
 
 use crate::input::{InputFault, read_all};
-use crate::lookup::Declarations;
 use crate::output::write_all;
-use crate::reader::{ReadDocFault, read_doc};
-use crate::report::report;
-use crate::rules::{lines, violations};
 use crate::status::Status;
-use dg_decl::Item;
+use dg_early::{Declarations, Item, NoMemory, ReadDocFault, lines, read_doc, report, violations};
 use dg_io::{Gate, Sink, Source};
-use dg_types::NoMemory;
 use itoa::Buffer;
 use std::alloc::Global;
 
@@ -29,7 +27,8 @@ struct Answer {
 
 #[tactic(auto, unfolding(crate::specs::Output::too_long_text))]
 fn too_long(alloc: Global) -> Result<Answer, NoMemory>
-    ensures exact { IfOk result (λ a. (a.status ≡ Status.TooLong) × (a.text.items ≡ too_long_text)) }
+    ensures exact { IfOk result (λ a.
+        (a.status ≡ Status.TooLong) × (a.text.items ≡ too_long_text)) }
 {
     Ok(Answer {
         status: Status::TooLong,
@@ -39,7 +38,8 @@ fn too_long(alloc: Global) -> Result<Answer, NoMemory>
 
 #[tactic(auto, unfolding(crate::specs::Output::bad_line_text))]
 fn bad_line(alloc: Global, line: u32) -> Result<Answer, NoMemory>
-    ensures exact { IfOk result (λ a. (a.status ≡ Status.BadLine) × (a.text.items ≡ bad_line_text line)) }
+    ensures exact { IfOk result (λ a.
+        (a.status ≡ Status.BadLine) × (a.text.items ≡ bad_line_text line)) }
 {
     let mut buffer = Buffer::new();
     let mut text = Vec::from_slice(alloc, b"bad line ")?;
@@ -52,7 +52,7 @@ fn bad_line(alloc: Global, line: u32) -> Result<Answer, NoMemory>
 }
 
 /// The answer to a document with these items: its diagnostics, or else its report.
-#[tactic(auto, unfolding(crate::specs::Rules::diagnostics))]
+#[tactic(auto, unfolding(dg_early::specs::Rules::diagnostics))]
 fn answer_to_items(alloc: Global, items: &[Item]) -> Result<Answer, NoMemory>
     ensures exact { IfOk result (λ a. AnswersItems items.now a.status a.text.items) }
 {
@@ -83,13 +83,18 @@ fn answer_to(alloc: Global, bytes: &[u8]) -> Result<Answer, NoMemory>
     }
 }
 
-/// The answer to what a source gives. An `Err` is the status of a run that writes nothing: ReadFault or NoMemory.
+/// The answer to what a source gives. An `Err` is the status of a run that writes nothing:
+/// ReadFault or NoMemory.
 fn answer_source<S: Source>(alloc: Global, source: &mut S) -> Result<Answer, Status>
-    ensures exact { IfOk result (λ a. Answers (S.left source.old) (S.left source.new) a.status a.text.items) }
+    ensures exact { IfOk result (λ a.
+        Answers (S.left source.old) (S.left source.new) a.status a.text.items) }
     ensures kept { IfOk result (λ _. S.faults source.new ≡ S.faults source.old) }
-    ensures cause { IfErr result (λ s. ((s ≡ Status.ReadFault) × Rose (S.faults source.old) (S.faults source.new)) ⊎ (s ≡ Status.NoMemory)) }
+    ensures cause { IfErr result (λ s.
+        ((s ≡ Status.ReadFault) × Rose (S.faults source.old) (S.faults source.new))
+        ⊎ (s ≡ Status.NoMemory)) }
     ensures faults { S.faults source.old ≤ S.faults source.new }
-    ensures no_fault { IfErr result (λ s. s ≢ Status.ReadFault → S.faults source.new ≡ S.faults source.old) }
+    ensures no_fault { IfErr result (λ s.
+        s ≢ Status.ReadFault → S.faults source.new ≡ S.faults source.old) }
     ensures bound { TakesAtMost (document_limit + 1) (S.left source.old) (S.left source.new) }
 {
     let answered = match read_all(alloc, source) {
@@ -104,10 +109,10 @@ fn answer_source<S: Source>(alloc: Global, source: &mut S) -> Result<Answer, Sta
     }
 }
 
-/// Reads a document from the source, and writes its diagnostics or the replies to its asks to the sink. The words are
-/// those of the command line without the program's name: there are none. It reads and writes in the order of the
-/// statuses: words, then the source to its end, then the sink. The gates, at least 64, are told nothing, since one thread
-/// does all work.
+/// Reads a document from the source, and writes its diagnostics or the replies to its asks to the
+/// sink. The words are those of the command line without the program's name: there are none. It
+/// reads and writes in the order of the statuses: words, then the source to its end, then the sink.
+/// The gates, at least 64, are told nothing, since one thread does all work.
 pub fn run_top<S: Source, K: Sink, G: Gate + Send>(
     alloc: Global,
     words: &[String],
@@ -117,23 +122,35 @@ pub fn run_top<S: Source, K: Sink, G: Gate + Send>(
 ) -> Status
     requires { 64 ≤ vec_len gates.old }
 
-    // The status and the bytes that are appended are those of the output for the words and the bytes that were left.
-    ensures exact { Writes (map string_bytes words.now) (S.left source.old) (K.written sink.old) (K.written sink.new) result }
+    // The status and the bytes that are appended are those of the output for the words and the
+    // bytes that were left.
+    ensures exact { Writes (map string_bytes words.now) (S.left source.old)
+        (K.written sink.old) (K.written sink.new) result }
 
     // When each status comes.
     ensures bad_words { (result ≡ Status.BadWords) ↔ (map string_bytes words.now ≢ []) }
-    ensures untouched { result ≡ Status.BadWords → (source.new ≡ source.old) × (sink.new ≡ sink.old) }
-    ensures bad_line { BadLineExactly (map string_bytes words.now) (S.left source.old) (K.written sink.old) (K.written sink.new) result }
-    ensures refused { RefusedExactly (map string_bytes words.now) (S.left source.old) (K.written sink.old) (K.written sink.new) result }
-    ensures too_long { TooLongExactly (map string_bytes words.now) (S.left source.old) (S.left source.new) (K.written sink.old) (K.written sink.new) result }
-    ensures read_fault { result ≡ Status.ReadFault → Rose (S.faults source.old) (S.faults source.new) × Appends (K.written sink.old) (K.written sink.new) [] }
-    ensures write_fault { result ≡ Status.WriteFault → Rose (K.faults sink.old) (K.faults sink.new) }
-    ensures complete { IsComplete (map string_bytes words.now) (S.left source.old) (S.faults source.old) (S.faults source.new) (K.faults sink.old) (K.faults sink.new) result }
+    ensures untouched { result ≡ Status.BadWords
+        → (source.new ≡ source.old) × (sink.new ≡ sink.old) }
+    ensures bad_line { BadLineExactly (map string_bytes words.now) (S.left source.old)
+        (K.written sink.old) (K.written sink.new) result }
+    ensures refused { RefusedExactly (map string_bytes words.now) (S.left source.old)
+        (K.written sink.old) (K.written sink.new) result }
+    ensures too_long { TooLongExactly (map string_bytes words.now) (S.left source.old)
+        (S.left source.new) (K.written sink.old) (K.written sink.new) result }
+    ensures read_fault { result ≡ Status.ReadFault
+        → Rose (S.faults source.old) (S.faults source.new)
+        × Appends (K.written sink.old) (K.written sink.new) [] }
+    ensures write_fault { result ≡ Status.WriteFault
+        → Rose (K.faults sink.old) (K.faults sink.new) }
+    ensures complete { IsComplete (map string_bytes words.now) (S.left source.old)
+        (S.faults source.old) (S.faults source.new) (K.faults sink.old) (K.faults sink.new) result }
 
     // What was read, and what the gates heard.
-    ensures at_end { (result ≡ Status.Ran) ⊎ (result ≡ Status.Refused) ⊎ (result ≡ Status.BadLine) → IsAtEnd (S.left source.new) }
+    ensures at_end { (result ≡ Status.Ran) ⊎ (result ≡ Status.Refused) ⊎ (result ≡ Status.BadLine)
+        → IsAtEnd (S.left source.new) }
     ensures bound { TakesAtMost (document_limit + 1) (S.left source.old) (S.left source.new) }
-    ensures faults { (S.faults source.old ≤ S.faults source.new) × (K.faults sink.old ≤ K.faults sink.new) }
+    ensures faults { (S.faults source.old ≤ S.faults source.new)
+        × (K.faults sink.old ≤ K.faults sink.new) }
     ensures read_kept { result ≢ Status.ReadFault → S.faults source.new ≡ S.faults source.old }
     ensures write_kept { result ≢ Status.WriteFault → K.faults sink.new ≡ K.faults sink.old }
     ensures unwritten { result ≡ Status.ReadFault → sink.new ≡ sink.old }

@@ -1,0 +1,4 @@
+pub mod EqualityLemmas
+pub mod ShapeEquality
+pub mod ShapeLemmas
+pub mod WrittenBack

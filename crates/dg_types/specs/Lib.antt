@@ -1,4 +1,5 @@
 pub mod Bytes
 pub mod Equality
+pub mod Laws
 pub mod Requests
 pub mod Texts

@@ -1,7 +1,7 @@
 -- Which types have their place in requests, and what a type asks for where a parameter or an entry has it.
 -- B is `Text`, `Int`, a class or an interface; K is `Text` or `Int`; C is a core type.
 use Rattle.std.specs.Prelude.{Bool, Option, Some, None, is_some}
-use Rattle.std.specs.Option.{option_map, option_and_then}
+use Rattle.std.specs.Option.{option_map}
 use Rattle.dg_types.specs.declared.key.Base.{Base}
 use Rattle.dg_types.specs.declared.key.Base.TheVariants as base
 use Rattle.dg_types.specs.declared.key.MapKind.{MapKind}
@@ -14,8 +14,9 @@ use Rattle.dg_types.specs.declared.key.Mode.{Mode}
 use Rattle.dg_types.specs.declared.key.Mode.TheVariants as mode
 use Rattle.dg_types.specs.declared.key.Key.{Key}
 use Rattle.dg_types.specs.declared.key.Request.{Request}
-use Rattle.dg_types.specs.declared.shape.Shape.{Shape, out-Shape, roll-Shape}
+use Rattle.dg_types.specs.declared.shape.Shape.{Shape, out-Shape}
 use Rattle.dg_types.specs.declared.shape.Shape.TheOpen.{Shape-F}
+use Rattle.dg_types.specs.declared.shape.Shape.TheVariants as shape
 use Rattle.dg_types.specs.declared.shape.TypeUse.{TypeUse}
 
 -- a type as its outermost constructor with its parts
@@ -43,14 +44,13 @@ kind_at _ = None
 unfoldable pub kind_of : Shape → Option MapKind
 kind_of s = kind_at (out-Shape s)
 
--- what a set or a map holds or an optional has inside
-pub record Held : Type 0 where
-  pub of : Base
-  pub form : Inner
+-- what a set or a map holds or an optional has inside: a base type, and its form
+abbrev pub Held : Type 0
+Held = Base × Inner
 
 -- a base type in this form
 abbrev pub held_as : Inner → Option Base → Option Held
-held_as form b = option_map (λ x. record { of = x; form = form }) b
+held_as form b = option_map (λ x. (x, form)) b
 
 abbrev pub value_at : Layer → Option Held
 value_at (Shape-F.Provider t) = held_as inner.Provider (base_of t)
@@ -64,8 +64,12 @@ abbrev pub provided_at : Layer → Option Held
 provided_at (Shape-F.Lazy t) = held_as inner.ProviderLazy (base_of t)
 provided_at l = held_as inner.Provider (base_at l)
 
+-- what a type inside `Provider` is inside an optional
+abbrev pub provided_in : Shape → Option Held
+provided_in s = provided_at (out-Shape s)
+
 abbrev pub inside_at : Layer → Option Held
-inside_at (Shape-F.Provider t) = provided_at (out-Shape t)
+inside_at (Shape-F.Provider t) = provided_in t
 inside_at (Shape-F.Lazy t) = held_as inner.Lazy (base_of t)
 inside_at l = held_as inner.Plain (base_at l)
 
@@ -73,16 +77,25 @@ inside_at l = held_as inner.Plain (base_at l)
 unfoldable pub inside_of : Shape → Option Held
 inside_of s = inside_at (out-Shape s)
 
+abbrev pub one_of : Option Base → Option Core
+one_of b = option_map core.One b
+
+abbrev pub set_of : Inner → Option Base → Option Core
+set_of form b = option_map (λ x. core.Set x form) b
+
+abbrev pub optional_of : Option Held → Option Core
+optional_of held = option_map (λ h. core.Optional h.0 h.1) held
+
 -- a map of these keys and values, where both are types that a map may have
 abbrev pub map_of : Option MapKind → Option Held → Option Core
 map_of None held = None
-map_of (Some k) held = option_map (λ h. core.Map k h.of h.form) held
+map_of (Some k) held = option_map (λ h. core.Map k h.0 h.1) held
 
 abbrev pub core_at : Layer → Option Core
-core_at (Shape-F.Set t) = option_map (λ b. core.Set b inner.Plain) (base_of t)
+core_at (Shape-F.Set t) = set_of inner.Plain (base_of t)
 core_at (Shape-F.Map k t) = map_of (kind_of k) (value_of t)
-core_at (Shape-F.Optional t) = option_map (λ h. core.Optional h.of h.form) (inside_of t)
-core_at l = option_map core.One (base_at l)
+core_at (Shape-F.Optional t) = optional_of (inside_of t)
+core_at l = one_of (base_at l)
 
 -- C: B, `Set<B>`, `Map<K,B>`, `Map<K,Provider<B>>`, or `Optional` of B, `Provider<B>`, `Lazy<B>` or `Provider<Lazy<B>>`
 unfoldable pub core_of : Shape → Option Core
@@ -91,20 +104,23 @@ core_of s = core_at (out-Shape s)
 -- ---- types of parameters and entries
 
 -- a form of asking, and the core type that is asked for
-pub record Asked : Type 0 where
-  pub mode : Mode
-  pub core : Core
+abbrev pub Asked : Type 0
+Asked = Mode × Core
 
 -- a core type asked for in this form
 abbrev pub asked_as : Mode → Option Core → Option Asked
-asked_as how c = option_map (λ x. record { mode = how; core = x }) c
+asked_as how c = option_map (λ x. (how, x)) c
 
 abbrev pub deferred_at : Layer → Option Asked
 deferred_at (Shape-F.Lazy t) = asked_as mode.ProviderLazy (core_of t)
 deferred_at l = asked_as mode.Provider (core_at l)
 
+-- what a type inside `Provider` asks for
+abbrev pub deferred_of : Shape → Option Asked
+deferred_of s = deferred_at (out-Shape s)
+
 abbrev pub plain_at : Layer → Option Asked
-plain_at (Shape-F.Provider t) = deferred_at (out-Shape t)
+plain_at (Shape-F.Provider t) = deferred_of t
 plain_at (Shape-F.Lazy t) = asked_as mode.Lazy (core_of t)
 plain_at l = asked_as mode.Instance (core_at l)
 
@@ -121,10 +137,10 @@ unfoldable pub produced_of : Shape → Option Base
 produced_of s = produced_at (out-Shape s)
 
 abbrev pub producing_at : Layer → Option Asked
-producing_at (Shape-F.Set t) = asked_as mode.Instance (option_map (λ b. core.Set b inner.Produced) (produced_of t))
+producing_at (Shape-F.Set t) = asked_as mode.Instance (set_of inner.Produced (produced_of t))
 producing_at (Shape-F.Map k t) = asked_as mode.Instance (map_of (kind_of k) (held_as inner.Produced (produced_of t)))
-producing_at (Shape-F.Produced t) = asked_as mode.Produced (option_map core.One (base_of t))
-producing_at (Shape-F.Producer t) = asked_as mode.Producer (option_map core.One (base_of t))
+producing_at (Shape-F.Produced t) = asked_as mode.Produced (one_of (base_of t))
+producing_at (Shape-F.Producer t) = asked_as mode.Producer (one_of (base_of t))
 producing_at _ = None
 
 -- `Set<Produced<B>>`, `Map<K,Produced<B>>`, `Produced<B>` or `Producer<B>`
@@ -150,40 +166,40 @@ is_use u = is_some (asked_of u.shape)
 
 -- What a parameter or an entry of this type asks for: the key has its qualifier and its core type.
 unfoldable pub request_of : TypeUse → Option Request
-request_of u = option_map (λ a. record { mode = a.mode; key = record { qualifier = u.qualifier; core = a.core } }) (asked_of u.shape)
+request_of u = option_map (λ a. record { mode = a.0; key = record { qualifier = u.qualifier; core = a.1 } }) (asked_of u.shape)
 
 -- ---- the type that a request is written as
 
 abbrev pub shape_of_base : Base → Shape
-shape_of_base base.Text = roll-Shape Shape-F.Text
-shape_of_base base.Int = roll-Shape Shape-F.Int
-shape_of_base (base.Named name) = roll-Shape (Shape-F.Named name)
+shape_of_base base.Text = shape.Text
+shape_of_base base.Int = shape.Int
+shape_of_base (base.Named name) = shape.Named name
 
 abbrev pub shape_of_kind : MapKind → Shape
-shape_of_kind kind.Text = roll-Shape Shape-F.Text
-shape_of_kind kind.Int = roll-Shape Shape-F.Int
+shape_of_kind kind.Text = shape.Text
+shape_of_kind kind.Int = shape.Int
 
 abbrev pub shape_in : Inner → Shape → Shape
 shape_in inner.Plain s = s
-shape_in inner.Provider s = roll-Shape (Shape-F.Provider s)
-shape_in inner.Lazy s = roll-Shape (Shape-F.Lazy s)
-shape_in inner.ProviderLazy s = roll-Shape (Shape-F.Provider (roll-Shape (Shape-F.Lazy s)))
-shape_in inner.Produced s = roll-Shape (Shape-F.Produced s)
+shape_in inner.Provider s = shape.Provider s
+shape_in inner.Lazy s = shape.Lazy s
+shape_in inner.ProviderLazy s = shape.Provider (shape.Lazy s)
+shape_in inner.Produced s = shape.Produced s
 
 -- the type that a core type is written as
 unfoldable pub shape_of_core : Core → Shape
 shape_of_core (core.One b) = shape_of_base b
-shape_of_core (core.Set b i) = roll-Shape (Shape-F.Set (shape_in i (shape_of_base b)))
-shape_of_core (core.Map k b i) = roll-Shape (Shape-F.Map (shape_of_kind k) (shape_in i (shape_of_base b)))
-shape_of_core (core.Optional b i) = roll-Shape (Shape-F.Optional (shape_in i (shape_of_base b)))
+shape_of_core (core.Set b i) = shape.Set (shape_in i (shape_of_base b))
+shape_of_core (core.Map k b i) = shape.Map (shape_of_kind k) (shape_in i (shape_of_base b))
+shape_of_core (core.Optional b i) = shape.Optional (shape_in i (shape_of_base b))
 
 abbrev pub shape_asked : Mode → Shape → Shape
 shape_asked mode.Instance s = s
-shape_asked mode.Provider s = roll-Shape (Shape-F.Provider s)
-shape_asked mode.Lazy s = roll-Shape (Shape-F.Lazy s)
-shape_asked mode.ProviderLazy s = roll-Shape (Shape-F.Provider (roll-Shape (Shape-F.Lazy s)))
-shape_asked mode.Produced s = roll-Shape (Shape-F.Produced s)
-shape_asked mode.Producer s = roll-Shape (Shape-F.Producer s)
+shape_asked mode.Provider s = shape.Provider s
+shape_asked mode.Lazy s = shape.Lazy s
+shape_asked mode.ProviderLazy s = shape.Provider (shape.Lazy s)
+shape_asked mode.Produced s = shape.Produced s
+shape_asked mode.Producer s = shape.Producer s
 
 -- the type of a parameter that makes this request
 unfoldable pub use_of : Request → TypeUse

@@ -1,6 +1,7 @@
 use crate::name::Name;
 use crate::shape::Qualifier;
 use crate::text::Text;
+use std::alloc::AllocError;
 
 /// A type without parts: that of a text, of an integer, or of a class or interface.
 #[derive(Clone, Drop, PartialEq, Eq, PartialOrd, Ord, Hash)]
@@ -78,4 +79,43 @@ pub struct Request {
 pub enum MapKeyVal {
     Text(Text),
     Int(i64),
+}
+
+impl Clone for Key {
+    ghost use Rattle.std.specs.Prelude.{◌≡◌};
+
+    ghost is_clone = { λ original copy. copy ≡ original };
+
+    fn clone(&self) -> Result<Key, AllocError> {
+        Ok(Key {
+            qualifier: self.qualifier.clone()?,
+            core: self.core.clone()?,
+        })
+    }
+}
+
+impl Clone for Request {
+    ghost use Rattle.std.specs.Prelude.{◌≡◌};
+
+    ghost is_clone = { λ original copy. copy ≡ original };
+
+    fn clone(&self) -> Result<Request, AllocError> {
+        Ok(Request {
+            mode: self.mode,
+            key: self.key.clone()?,
+        })
+    }
+}
+
+impl Clone for MapKeyVal {
+    ghost use Rattle.std.specs.Prelude.{◌≡◌};
+
+    ghost is_clone = { λ original copy. copy ≡ original };
+
+    fn clone(&self) -> Result<MapKeyVal, AllocError> {
+        match self {
+            MapKeyVal::Text(text) => Ok(MapKeyVal::Text(text.clone()?)),
+            MapKeyVal::Int(n) => Ok(MapKeyVal::Int(*n)),
+        }
+    }
 }

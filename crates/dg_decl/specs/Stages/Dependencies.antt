@@ -1,5 +1,5 @@
 -- The rule on the components that a component depends on.
-use Rattle.std.specs.Prelude.{ℕ, nat_eq, nat_lt, Bool, ◌&&◌, ◌||◌, List, [], ◌∷◌, ◌++◌, map, is_some, option_to_list}
+use Rattle.std.specs.Prelude.{◌↔◌, IsTrue, ℕ, nat_eq, nat_lt, Bool, ◌&&◌, ◌||◌, List, [], ◌∷◌, ◌++◌, map, is_some, option_to_list}
 use Rattle.std.specs.List.{filter, flat_map, list_any}
 use Rattle.dg_lex.specs.Bytes.{Bytes}
 use Rattle.dg_decl.specs.declared.document.Doc.{Doc}
@@ -23,6 +23,10 @@ StandsOn doc from to = IsReached (stands_on doc) (from ∷ []) to
 unfoldable pub is_below : Doc → ℕ → ℕ → Bool
 is_below doc from to = is_within nat_eq (stands_on doc) (class_count doc) (from ∷ []) to
 
+-- as many steps as there are classes are enough for any walk of parents and dependencies
+abbrev pub BelowByShortWalks : Type 0
+BelowByShortWalks = (doc : Doc) (from to : ℕ) → IsTrue (is_below doc from to) ↔ StandsOn doc from to
+
 -- an earlier line of the block of a class names this class as a dependency
 abbrev pub is_named_earlier : Doc → ℕ → ℕ → Bytes → Bool
 is_named_earlier doc c index n =
@@ -34,7 +38,8 @@ leads_back doc c n = list_any (λ d. is_below doc d c) (option_to_list (class_na
 
 -- a component has a parent, names a dependency again, or depends on a class that stands on it
 abbrev pub is_bad_dependency : Doc → ℕ → ℕ → Bytes → Bool
-is_bad_dependency doc c index n = is_some (parent_of doc c) || is_named_earlier doc c index n || leads_back doc c n
+is_bad_dependency doc c index n =
+    is_some (parent_of doc c) || is_named_earlier doc c index n || leads_back doc c n
 
 -- a `dependsOn` line names a class on which its component may not depend
 unfoldable pub bad_depends_on : Doc → Statement → List Violation

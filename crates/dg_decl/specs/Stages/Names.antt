@@ -1,4 +1,5 @@
--- The stage of names: each name is declared once, and each mention has a declaration of the kind that it wants.
+-- The stage of names: each name is declared once, and each mention has a declaration of the kind
+-- that it wants.
 use Rattle.std.specs.Prelude.{ℕ, nat_lt, Bool, true, false, not, ◌&&◌, ◌||◌, ◌==◌, if◌then◌else◌, List, [], ◌∷◌, ◌++◌, map, filter, flat_map, Option, Some, None, is_some, option_to_list}
 use Rattle.std.specs.List.{list_any}
 use Rattle.std.specs.Option.{option_map_or}
@@ -14,7 +15,6 @@ use Rattle.dg_decl.specs.declared.document.Doc.{Doc}
 use Rattle.dg_decl.specs.declared.item.Item.{Item}
 use Rattle.dg_decl.specs.declared.item.Item.TheVariants as item
 use Rattle.dg_decl.specs.declared.item.Param.{Param}
-use Rattle.dg_decl.specs.declared.item.OpenArg.{OpenArg}
 use Rattle.dg_decl.specs.declared.expression.Cond.TheOpen.{Cond-F, Expr-F}
 use Rattle.dg_decl.specs.declared.expression.Cond.{Cond, fold-Cond}
 use Rattle.dg_decl.specs.declared.expression.Expr.{Expr, fold-Expr}
@@ -42,32 +42,38 @@ same_block a b = false
 
 -- an earlier statement has the same name of this kind
 abbrev pub has_earlier : (Item → Option Bytes) → (Statement → Bool) → Doc → Statement → Bytes → Bool
-has_earlier name_in among doc s n = list_any (λ e. stands_before e s && among e && is_called name_in n e) (statements doc)
+has_earlier name_in among doc s n =
+    list_any (λ e. stands_before e s && among e && is_called name_in n e) (statements doc)
 
 abbrev pub anywhere : Statement → Bool
 anywhere e = true
 
--- the name that a statement declares outside blocks, where it is predefined or an earlier one declares it
+-- the name that a statement declares outside blocks, where it is predefined or an earlier one
+-- declares it
 abbrev pub repeated_outer : Doc → Statement → List Bytes
 repeated_outer doc s =
-    filter (λ n. is_among n predefined_names || has_earlier outer_name anywhere doc s n) (option_to_list (outer_name s.item))
+    filter (λ n. is_among n predefined_names || has_earlier outer_name anywhere doc s n)
+    (option_to_list (outer_name s.item))
 
 -- the name of a member, where an earlier member of its block has it
 abbrev pub repeated_member : Doc → Statement → List Bytes
 repeated_member doc s =
-    filter (has_earlier member_name (λ e. same_block e.block s.block) doc s) (option_to_list (member_name s.item))
+    filter (has_earlier member_name (λ e. same_block e.block s.block) doc s)
+    (option_to_list (member_name s.item))
 
 -- the names of parameters that earlier ones of their list have
 abbrev pub repeated_among : List Bytes → List Bytes → List Bytes
 repeated_among earlier [] = []
-repeated_among earlier (n ∷ ns) = (if is_among n earlier then n ∷ [] else []) ++ repeated_among (n ∷ earlier) ns
+repeated_among earlier (n ∷ ns) =
+    (if is_among n earlier then n ∷ [] else []) ++ repeated_among (n ∷ earlier) ns
 
 abbrev pub repeated_params : Statement → List Bytes
 repeated_params s = repeated_among [] (map (λ p. p.name) (params_of s.item))
 
 -- the name of an instance, where an earlier `open` line opens one of this name
 abbrev pub repeated_instance : Doc → Statement → List Bytes
-repeated_instance doc s = filter (has_earlier instance_name anywhere doc s) (option_to_list (instance_name s.item))
+repeated_instance doc s =
+    filter (has_earlier instance_name anywhere doc s) (option_to_list (instance_name s.item))
 
 -- a name is declared again
 unfoldable pub duplicate_name : Doc → Statement → List Violation
@@ -167,22 +173,29 @@ of_some w n = map (mention w) (option_to_list n)
 
 -- the names that an item mentions, in the order of its line
 unfoldable pub mentions : Item → List Mention
-mentions (item.Class inject s n params interfaces) = of_some scope s ++ in_params params ++ of_each interface interfaces
-mentions (item.Module install n includes) = of_some install_target install ++ of_each modules includes
+mentions (item.Class inject s n params interfaces) =
+    of_some scope s ++ in_params params ++ of_each interface interfaces
+mentions (item.Module install n includes) =
+    of_some install_target install ++ of_each modules includes
 mentions (item.TestModule install n replaces includes) =
     mention install_target install ∷ of_each modules replaces ++ of_each modules includes
-mentions (item.Component scopes n parent ms) = of_each scope scopes ++ of_some component parent ++ of_each modules ms
-mentions (item.DefineComponent scopes n parent) = of_each scope scopes ++ mention install_target parent ∷ []
+mentions (item.Component scopes n parent ms) =
+    of_each scope scopes ++ of_some component parent ++ of_each modules ms
+mentions (item.DefineComponent scopes n parent) =
+    of_each scope scopes ++ mention install_target parent ∷ []
 mentions (item.EntryPoint install n) = mention install_target install ∷ []
-mentions (item.Provides mark s n params result body) = of_some scope s ++ in_params params ++ in_use result ++ in_expr body
+mentions (item.Provides mark s n params result body) =
+    of_some scope s ++ in_params params ++ in_use result ++ in_expr body
 mentions (item.Binds mark s n param result) = of_some scope s ++ in_use param.shape ++ in_use result
-mentions (item.Produces mark n params result body) = in_params params ++ in_use result ++ in_tree body
+mentions (item.Produces mark n params result body) =
+    in_params params ++ in_use result ++ in_tree body
 mentions (item.OptionalOf n result) = in_use result
 mentions (item.Multibinds n result) = in_use result
 mentions (item.BindsInstance n result) = in_use result
 mentions (item.DependsOn n) = mention component_class n ∷ []
 mentions (item.Entry n result) = in_use result
-mentions (item.OpenLine n c parent args) = mention component_class c ∷ flat_map (λ a. in_expr a.value) args
+mentions (item.OpenLine n c parent args) =
+    mention component_class c ∷ flat_map (λ a. in_expr a.value) args
 mentions other = []
 
 -- ---- what a mention may stand for
@@ -193,7 +206,8 @@ is_scope_item other = false
 
 -- a qualifier, and whether it has a member
 abbrev pub is_qualifier_item : Bool → Item → Bool
-is_qualifier_item wants_member (item.QualifierLine n member) = if member then wants_member else not wants_member
+is_qualifier_item wants_member (item.QualifierLine n member) =
+    if member then wants_member else not wants_member
 is_qualifier_item wants_member other = false
 
 abbrev pub is_interface_item : Item → Bool
@@ -212,20 +226,24 @@ is_defined_component_item other = false
 abbrev pub is_declared_as : (Item → Bool) → Doc → Bytes → Bool
 is_declared_as is_kind doc n = option_map_or (λ s. is_kind s.item) (declared doc n) false
 
--- a name stands for what is wanted: it is predefined as such, or its first declaration is of that kind
+-- a name stands for what is wanted: it is predefined as such, or its first declaration is of that
+-- kind
 abbrev pub is_known : Doc → List Param → Wanted → Bytes → Bool
 is_known doc params scope n = is_among n scope_names || is_declared_as is_scope_item doc n
 is_known doc params qualifier n = is_declared_as (is_qualifier_item false) doc n
-is_known doc params qualifier_with_member n = is_among n qualifier_names || is_declared_as (is_qualifier_item true) doc n
+is_known doc params qualifier_with_member n =
+    is_among n qualifier_names || is_declared_as (is_qualifier_item true) doc n
 is_known doc params type n =
     is_among n default_classes || is_declared_as (λ i. is_class i || is_interface_item i) doc n
 is_known doc params interface n = is_declared_as is_interface_item doc n
 is_known doc params class n = is_among n default_classes || is_declared_as is_class doc n
 is_known doc params modules n = is_declared_as is_module doc n
 is_known doc params component n = is_declared_as is_component_item doc n
-is_known doc params install_target n = is_among n hilt_names || is_declared_as is_defined_component_item doc n
+is_known doc params install_target n =
+    is_among n hilt_names || is_declared_as is_defined_component_item doc n
 is_known doc params component_class n =
-    is_among n hilt_names || is_declared_as (λ i. is_component_item i || is_defined_component_item i) doc n
+    is_among n hilt_names
+    || is_declared_as (λ i. is_component_item i || is_defined_component_item i) doc n
 is_known doc params parameter n = list_any (λ p. bytes_eq p.name n) params
 
 -- a mention has no declaration of the kind that it wants

@@ -1,4 +1,5 @@
--- The stage of sizes: how deep and how heavy each node of the graph may be. These rules are this project's own.
+-- The stage of sizes: how deep and how heavy each node of the graph may be. These rules are this
+-- project's own.
 use Rattle.std.specs.Prelude.{ℕ, nat_lt, not, ◌&&◌, List, ◌++◌, flat_map, None}
 use Rattle.dg_decl.specs.declared.document.Doc.{Doc}
 use Rattle.dg_decl.specs.declared.graph.Node.{Node}
@@ -18,11 +19,15 @@ weight_limit = 4096
 
 -- a walk of too many nodes begins at the node
 unfoldable pub too_deep : Doc → Node → List Violation
-too_deep doc n = where_true (not (is_entry n) && nat_lt depth_limit (depth doc n)) (at_node rule.TooDeep None doc n)
+too_deep doc n =
+    where_true (not (is_entry n) && nat_lt depth_limit (depth doc n))
+    (at_node rule.TooDeep None doc n)
 
 -- the evaluation of the node goes through too much
 unfoldable pub too_heavy : Doc → Node → List Violation
-too_heavy doc n = where_true (not (is_entry n) && nat_lt weight_limit (weight doc n)) (at_node rule.TooHeavy None doc n)
+too_heavy doc n =
+    where_true (not (is_entry n) && nat_lt weight_limit (weight doc n))
+    (at_node rule.TooHeavy None doc n)
 
 -- the stage, by node and then by rule
 unfoldable pub sizes_stage : Doc → List Violation

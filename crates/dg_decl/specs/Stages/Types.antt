@@ -1,5 +1,5 @@
 -- The stage of types: each type is allowed in its place, and each body has the type of its result.
-use Rattle.std.specs.Prelude.{ℕ, Bool, true, false, not, ◌&&◌, if◌then◌else◌, List, [], ◌∷◌, ◌++◌, map, filter, flat_map, Option, Some, None, is_some, is_none, option_and_then}
+use Rattle.std.specs.Prelude.{Bool, true, false, not, ◌&&◌, if◌then◌else◌, List, [], ◌∷◌, ◌++◌, map, filter, flat_map, Option, Some, None, is_some, is_none, option_and_then}
 use Rattle.std.specs.Option.{option_map_or}
 use Rattle.dg_lex.specs.Bytes.{Bytes}
 use Rattle.dg_types.specs.declared.shape.Shape.{Shape, out-Shape}
@@ -63,9 +63,12 @@ each_placed is_allowed ps = map (λ p. placed is_allowed p.shape) ps
 -- the types of an item, each in its place: those of parameters, and then that of the result
 unfoldable pub types_of : Item → List Placed
 types_of (item.Class inject scope n params interfaces) = each_placed is_plain_use params
-types_of (item.Provides m scope n params result body) = each_placed is_plain_use params ++ placed (is_result_use m) result ∷ []
-types_of (item.Binds m scope n param result) = placed is_base_use param.shape ∷ placed (is_result_use m) result ∷ []
-types_of (item.Produces m n params result body) = each_placed is_use params ++ placed (is_result_use m) result ∷ []
+types_of (item.Provides m scope n params result body) =
+    each_placed is_plain_use params ++ placed (is_result_use m) result ∷ []
+types_of (item.Binds m scope n param result) =
+    placed is_base_use param.shape ∷ placed (is_result_use m) result ∷ []
+types_of (item.Produces m n params result body) =
+    each_placed is_use params ++ placed (is_result_use m) result ∷ []
 types_of (item.OptionalOf n result) = placed is_base_use result ∷ []
 types_of (item.Multibinds n result) = placed is_multi_use result ∷ []
 types_of (item.BindsInstance n result) = placed is_base_use result ∷ []
@@ -75,7 +78,8 @@ types_of other = []
 -- a type isn't allowed in its place
 unfoldable pub bad_type : Doc → Statement → List Violation
 bad_type doc s =
-    map (λ p. at_line rule.BadType s (shape_text p.shape)) (filter (λ p. not p.allowed) (types_of s.item))
+    map (λ p. at_line rule.BadType s (shape_text p.shape))
+    (filter (λ p. not p.allowed) (types_of s.item))
 
 -- ---- optionals of classes
 
@@ -97,11 +101,13 @@ optional_use other = None
 
 -- `bindsOptionalOf` of an unqualified class with `@Inject`: the class is bound anyway
 unfoldable pub optional_of_inject : Doc → Statement → List Violation
-optional_of_inject doc s = option_map_or broken (option_and_then unqualified_class (optional_use s.item)) []
+optional_of_inject doc s =
+    option_map_or broken (option_and_then unqualified_class (optional_use s.item)) []
   where
     broken : Bytes → List Violation
     broken class =
-        if option_map_or is_injected (option_and_then (item_at doc) (class_item_named doc class)) false
+        if option_map_or is_injected
+        (option_and_then (item_at doc) (class_item_named doc class)) false
         then at_line rule.OptionalOfInject s class ∷ [] else []
 
 -- ---- bodies
@@ -109,7 +115,8 @@ optional_of_inject doc s = option_map_or broken (option_and_then unqualified_cla
 -- a body checks against the type of its result; the parameter of `binds` is assignable to it
 abbrev pub has_its_type : Doc → Item → Bool
 has_its_type doc (item.Provides m scope n params result body) = checks doc params body result.shape
-has_its_type doc (item.Binds m scope n param result) = is_assignable doc param.shape.shape result.shape
+has_its_type doc (item.Binds m scope n param result) =
+    is_assignable doc param.shape.shape result.shape
 has_its_type doc (item.Produces m n params result body) = tree_checks doc params body result.shape
 has_its_type doc other = true
 
@@ -121,4 +128,6 @@ type_mismatch doc s =
 
 -- the stage, by line and then by rule
 unfoldable pub types_stage : Doc → List Violation
-types_stage doc = flat_map (λ s. bad_type doc s ++ optional_of_inject doc s ++ type_mismatch doc s) (statements doc)
+types_stage doc =
+    flat_map (λ s. bad_type doc s ++ optional_of_inject doc s ++ type_mismatch doc s)
+    (statements doc)

@@ -6,5 +6,6 @@ use Rattle.dg_num.proofs.cycles.marks_on_cycle.Given as goal
 abbrev pub invariant-loop-node : goal.invariant-loop-node
 invariant-loop-node l = record {
   len : vec_len l.marks ≡ l.node;
-  exact : (node : ℕ) → node < l.node → IsTrueAt l.marks.items node ↔ IsOnCycle (successors l.graph) node;
+  exact : (node : ℕ) → node < l.node → IsTrueAt l.marks.items node ↔ IsOnCycle
+      (successors l.graph) node;
 }

@@ -16,12 +16,15 @@ loop-node-preserved c = λ a b lt edge.
     let e : a ≡ node = omega arith in
     let E : ℕ → Type 0 = λ x. HasEdge graph x b in
     let P : List ℕ → Type 0 = λ xs. Contains xs b in
-    let within = All-contains (λ x. x < c.len-in-loop-node.result) row b (c.all_below.ensures.0 c.if-not-all_below.false) (subst P (sym c.row.ensures.exact) (subst E e edge)) in
+    let within = All-contains (λ x. x < c.len-in-loop-node.result) row b
+    (c.all_below.ensures.0 c.if-not-all_below.false)
+    (subst P (sym c.row.ensures.exact) (subst E e edge)) in
     omega (arith, within, c.len-in-loop-node.ensures))
     (cases_lt a node)
 
 pub returns : goal.returns
 returns c = λ yes. record {
-  in_range = λ a b edge. c.loop-node.invariant a b (omega (arith, node_from_edge c.args.graph.now a b edge)) edge;
+  in_range = λ a b edge. c.loop-node.invariant a b
+      (omega (arith, node_from_edge c.args.graph.now a b edge)) edge;
   small = omega arith;
 }

@@ -1,6 +1,6 @@
 use Rattle.std.proofs.Common.{◌≡◌, ◌≢◌, List, vec_len, sym, subst, ◌∙◌, arith}
 use Rattle.std.proofs.lemmas.Bool.{eqb-true, eqb-false}
-use Rattle.dg_decl.specs.declared.item.Item.{Item}
+use Rattle.dg_early.specs.declared.item.Item.{Item}
 use Rattle.dg_top.specs.Answers.{AnswersItems}
 use Rattle.dg_top.specs.declared.status.Status.TheVariants.{Ran, Refused}
 use Rattle.dg_top.proofs.RunLemmas.{answer_good, answer_broken}

@@ -8,4 +8,7 @@ unfolding row_at
 returns c =
     let rows = c.args.self.now.next.items in
     let lt : c.args.node < length rows = omega arith in
-    record { exact = c.as_slice.ensures.value ∙ ap (λ row. row.items) c.index.ensures ∙ sym (get_or-map (λ row. row.items) rows c.args.node c.index.result.now [] lt) }
+    record {
+      exact = c.as_slice.ensures.value ∙ ap (λ row. row.items) c.index.ensures
+          ∙ sym (get_or-map (λ row. row.items) rows c.args.node c.index.result.now [] lt);
+    }

@@ -1,5 +1,0 @@
-use Rattle.dg_lex.proofs.OrderLemmas.{bad_place}
-use Rattle.dg_lex.proofs.laws.bad_places.Goals as goal
-
-pub returns : goal.returns
-returns c = record { exact = bad_place }
