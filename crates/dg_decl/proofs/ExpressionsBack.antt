@@ -1,14 +1,11 @@
 -- Expressions are read back from their tokens: each form, from what holds of its parts.
-use Rattle.std.proofs.Common.{ℕ, zero, suc, ◌≡◌, ◌+◌, ◌-◌, ◌≤◌, ◌<◌, Bool, true, false, ◌&&◌, List, [], ◌∷◌, ◌++◌, length, map, max, Option, Some, None, refl, sym, ap, subst, ◌∙◌, append_assoc, arith}
-use Rattle.std.specs.Prelude.{if◌then◌else◌, ◌||◌, not, codes, nat_le, ℤ}
-use Rattle.std.specs.Fmt.{signed_decimal}
+use Rattle.std.proofs.Common.{ℕ, zero, suc, ◌≡◌, ◌+◌, ◌-◌, ◌≤◌, ◌<◌, Bool, true, false, ◌&&◌, List, [], ◌∷◌, ◌++◌, max, Some, refl, sym, ap, ◌∙◌, append_assoc, arith}
+use Rattle.std.specs.Prelude.{codes, ℤ}
 use Rattle.std.specs.List.{list_all}
-use Rattle.std.specs.Str.{bytes_eq}
-use Rattle.std.proofs.lemmas.Bool.{and_parts, or_parts, not-true, leb-true, false≢true}
 use Rattle.dg_lex.specs.declared.token.TokenKind.TheVariants as kind
 use Rattle.dg_lex.specs.Bytes.{Bytes, is_plain}
-use Rattle.dg_lex.specs.Tokens.{is_name, is_integer, value_of_integer}
-use Rattle.dg_lex.specs.Lexemes.{Lexeme, quoted, value_of_text}
+use Rattle.dg_lex.specs.Tokens.{is_name}
+use Rattle.dg_lex.specs.Lexemes.{Lexeme}
 use Rattle.dg_lex.specs.LexLaws.{is_in_range}
 use Rattle.dg_lex.proofs.TextLemmas.{quoted_back}
 use Rattle.dg_lex.proofs.DecimalLemmas.{decimals}
@@ -17,9 +14,9 @@ use Rattle.dg_decl.specs.declared.expression.Expr.TheVariants as expr
 use Rattle.dg_decl.specs.declared.expression.Cond.{Cond}
 use Rattle.dg_decl.specs.declared.expression.Cond.TheVariants as cond
 use Rattle.dg_decl.specs.declared.expression.Cond.TheOpen.{Cond-F, Expr-F}
-use Rattle.dg_decl.specs.Readers.{Reader, ◌>>=◌, then_reads, pure, comes, comes_kind, taken, eaten, spelled, text, integer, enclosed, list_of, in_parentheses, list_limit}
-use Rattle.dg_decl.specs.ExpressionForms.{nesting_limit, text_constant, integer_constant, object, named, named_as, atom, row_of, fields, prim, added, sum, comes_call, has, is_ok, comparison, condition, choice, whole, expression_within}
-use Rattle.dg_decl.specs.Written.{Level, Prim, Chain, Whole, Written, WrittenCondition, atom_of, parens, tight_at, loose_at, tight, loose, in_parens, name_token, word_token, sign_token, text_token, integer_token, expression_written, condition_written, separated, more_separated, list_tokens, if_tokens}
+use Rattle.dg_decl.specs.Readers.{Reader, comes, comes_kind, taken, eaten, spelled, text, integer, enclosed}
+use Rattle.dg_decl.specs.ExpressionForms.{nesting_limit, text_constant, integer_constant, named, named_as, atom, row_of, fields, prim, added, sum, comes_call, has, is_ok, comparison, condition, choice, whole, expression_within}
+use Rattle.dg_decl.specs.Written.{Level, Prim, Chain, Whole, Written, WrittenCondition, atom_of, parens, tight_at, loose_at, tight, loose, in_parens, name_token, word_token, sign_token, text_token, integer_token, expression_written, condition_written, if_tokens}
 
 -- ---- what may not follow
 
@@ -86,9 +83,9 @@ pub record Facts (s : Written) (n : ℕ) : Type 0 where
   pub no_has : (rest : List Lexeme) → NoCall rest → comes_call (codes "has") (s.tokens ++ rest) ≡ false
   pub no_ok : (rest : List Lexeme) → NoCall rest → comes_call (codes "ok") (s.tokens ++ rest) ≡ false
 
--- it begins with no `if`
+-- it begins with no `if` and no `await`
 abbrev pub NoChoice : Written → Type 0
-NoChoice s = (rest : List Lexeme) → comes kind.Word (codes "if") (s.tokens ++ rest) ≡ false
+NoChoice s = (rest : List Lexeme) → (comes kind.Word (codes "if") (s.tokens ++ rest) ≡ false) × (comes kind.Word (codes "await") (s.tokens ++ rest) ≡ false)
 
 pub record IsRead (s : Written) (n : ℕ) (e : Expr) : Type 0 where
   pub facts : Facts s n
@@ -115,7 +112,7 @@ chain_whole s n e facts plain is (suc d) le rest ends =
     let low = facts.added in
     let high = facts.within in
     let row : nesting_limit ≡ s.added + (nesting_limit - s.added) = omega (arith, low, high) in
-    rw (plain rest) (is d le (nesting_limit - s.added) row rest ends.stops ∙ added_ends d (nesting_limit - s.added) e rest ends.sum)
+    rw (plain rest).0 (is d le (nesting_limit - s.added) row rest ends.stops ∙ added_ends d (nesting_limit - s.added) e rest ends.sum)
 
 whole_at : (s : Written) (n : ℕ) (e : Expr) (l : Level) → s.level ≡ l → IsRead s n e → AtLevel l s e → IsWhole s e
 whole_at s n e Prim is r at = chain_whole s n e r.facts (r.choice (λ same. absurd (let c : Prim ≡ Whole = sym is ∙ same in cc))) (prim_chain s n e r.facts (r.alone is) at)
@@ -170,7 +167,7 @@ parens_facts s n facts = (let low = facts.fields in record {
 
 parens_plain : (s : Written) → NoChoice (parens s)
 unfolding comes
-parens_plain s rest = refl
+parens_plain s rest = (refl, refl)
 
 -- an expression that is read as a part that needs no parentheses
 pub record IsTight (s : Written) (n : ℕ) (e : Expr) : Type 0 where
@@ -241,14 +238,14 @@ unfolding comes comes_call
 text_read t =
     atom_read (text_token t ∷ []) 1 1 (list_all is_plain t) (expr.Text t)
     record { some = omega arith; fields = omega arith; added = omega arith; within = within_one; no_close = λ rest. refl; no_has = λ rest call. refl; no_ok = λ rest call. refl }
-    (λ rest. refl) (λ d le rest call. text_atom d t rest)
+    (λ rest. (refl, refl)) (λ d le rest call. text_atom d t rest)
 
 pub integer_read : (n : ℤ) → is_in_range n ≡ true → IsRead (expression_written (Expr-F.Int n)) 1 (expr.Int n)
 unfolding comes comes_call
 integer_read n within =
     atom_read (integer_token n ∷ []) 1 1 (is_in_range n) (expr.Int n)
     record { some = omega arith; fields = omega arith; added = omega arith; within = within_one; no_close = λ rest. refl; no_has = λ rest call. refl; no_ok = λ rest call. refl }
-    (λ rest. refl) (λ d le rest call. integer_atom d n rest within)
+    (λ rest. (refl, refl)) (λ d le rest call. integer_atom d n rest within)
 
 no_named_call : (w p : Bytes) (rest : List Lexeme) → NoCall rest → comes_call w (name_token p ∷ rest) ≡ false
 unfolding comes_call
@@ -263,7 +260,7 @@ unfolding comes
 param_read p =
     atom_read (name_token p ∷ []) 1 1 (is_name p) (expr.Param p)
     record { some = omega arith; fields = omega arith; added = omega arith; within = within_one; no_close = λ rest. refl; no_has = λ rest call. no_named_call (codes "has") p rest call; no_ok = λ rest call. no_named_call (codes "ok") p rest call }
-    (λ rest. refl) (λ d le rest call. param_atom d p rest call)
+    (λ rest. (refl, refl)) (λ d le rest call. param_atom d p rest call)
 
 -- ---- fields and sums
 
@@ -352,7 +349,7 @@ sum_read s t m n a b rs rt within =
 abbrev pub IsConditionRead : WrittenCondition → Cond → Type 0
 IsConditionRead w c = (d : ℕ) → w.depth ≤ suc d → (rest : List Lexeme) → Ends rest → condition (expression_within d) (w.tokens ++ rest) ≡ Some (c, rest)
 
-chain_sum : (s : Written) (n : ℕ) (e : Expr) → IsLoose s n e → (d : ℕ) → s.depth ≤ suc d → (rest : List Lexeme) → Ends rest → sum (expression_within d) (s.tokens ++ rest) ≡ Some (e, rest)
+pub chain_sum : (s : Written) (n : ℕ) (e : Expr) → IsLoose s n e → (d : ℕ) → s.depth ≤ suc d → (rest : List Lexeme) → Ends rest → sum (expression_within d) (s.tokens ++ rest) ≡ Some (e, rest)
 chain_sum s n e r d le rest ends =
     let low = r.facts.added in
     let high = r.facts.within in
@@ -413,11 +410,11 @@ pub is_ok_read : (p : Bytes) → IsConditionRead (condition_written (Cond-F.IsOk
 unfolding condition comes_call comes is_ok taken enclosed spelled
 is_ok_read p d le rest ends = refl
 
-then_ends : (rest : List Lexeme) → Ends (word_token (codes "then") ∷ rest)
+pub then_ends : (rest : List Lexeme) → Ends (word_token (codes "then") ∷ rest)
 unfolding comes
 then_ends rest = record { stops = record { call = refl; field = refl }; sum = refl }
 
-else_ends : (rest : List Lexeme) → Ends (word_token (codes "else") ∷ rest)
+pub else_ends : (rest : List Lexeme) → Ends (word_token (codes "else") ∷ rest)
 unfolding comes
 else_ends rest = record { stops = record { call = refl; field = refl }; sum = refl }
 
@@ -425,7 +422,7 @@ choice_of : (d : ℕ) (c : Cond) (a b : Expr) (cs xs ys rest : List Lexeme) → 
 unfolding expression_within whole choice taken comes
 choice_of d c a b cs xs ys rest first second third = rw (first, second, third) refl
 
-if_apart : (w : WrittenCondition) (xs ys rest : List Lexeme) → if_tokens w xs ys ++ rest ≡ word_token (codes "if") ∷ (w.tokens ++ (word_token (codes "then") ∷ (xs ++ (word_token (codes "else") ∷ (ys ++ rest)))))
+pub if_apart : (w : WrittenCondition) (xs ys rest : List Lexeme) → if_tokens w xs ys ++ rest ≡ word_token (codes "if") ∷ (w.tokens ++ (word_token (codes "then") ∷ (xs ++ (word_token (codes "else") ∷ (ys ++ rest)))))
 if_apart w xs ys rest = rw (append_assoc w.tokens (word_token (codes "then") ∷ (xs ++ (word_token (codes "else") ∷ ys))) rest, append_assoc xs (word_token (codes "else") ∷ ys) rest) refl
 
 if_whole : (w : WrittenCondition) (s t : Written) (m n : ℕ) (c : Cond) (a b : Expr) → IsConditionRead w c → IsRead s m a → IsRead t n b → (d : ℕ) → suc (max w.depth (max s.depth t.depth)) ≤ d → (rest : List Lexeme) → Ends rest → expression_within d (if_tokens w s.tokens t.tokens ++ rest) ≡ Some (expr.If c a b, rest)

@@ -26,3 +26,6 @@ pub mod GraphLemmas
 pub mod SizeLemmas
 pub mod OnceLemmas
 pub mod NodesOnce
+pub mod AllBack
+pub mod DepthLemmas
+pub mod TreesBack

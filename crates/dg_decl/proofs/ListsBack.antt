@@ -1,8 +1,7 @@
 -- Lists of expressions, objects and functions are read back from their tokens.
-use Rattle.std.proofs.Common.{ℕ, zero, suc, ◌≡◌, ◌+◌, ◌-◌, ◌≤◌, ◌<◌, Bool, true, false, ◌&&◌, ◌==◌, List, [], ◌∷◌, ◌++◌, length, map, max, Option, Some, None, refl, sym, ap, subst, ◌∙◌, append_assoc, arith}
-use Rattle.std.specs.Prelude.{if◌then◌else◌, ◌||◌, codes, nat_le, nat_lt, fold}
-use Rattle.std.specs.List.{list_all}
-use Rattle.std.proofs.lemmas.Bool.{and_parts, leb-true, ltb-true, eqb-true, false≢true}
+use Rattle.std.proofs.Common.{ℕ, zero, suc, ◌≡◌, ◌≤◌, true, false, ◌&&◌, ◌==◌, List, [], ◌∷◌, ◌++◌, length, map, max, Some, refl, append_assoc, arith}
+use Rattle.std.specs.Prelude.{codes, nat_lt, fold}
+use Rattle.std.proofs.lemmas.Bool.{eqb-true, false≢true}
 use Rattle.dg_lex.specs.declared.token.TokenKind.TheVariants as kind
 use Rattle.dg_lex.specs.Bytes.{Bytes}
 use Rattle.dg_lex.specs.Tokens.{is_name}
@@ -13,11 +12,11 @@ use Rattle.dg_decl.specs.declared.expression.ParamCall.{ParamCall}
 use Rattle.dg_decl.specs.declared.expression.ParamCall.TheVariants as by
 use Rattle.dg_decl.specs.declared.expression.Expr.{Expr}
 use Rattle.dg_decl.specs.declared.expression.Expr.TheVariants as expr
-use Rattle.dg_decl.specs.declared.expression.Cond.TheOpen.{Cond-F, Expr-F}
-use Rattle.dg_decl.specs.Readers.{Reader, ◌>>=◌, then_reads, pure, comes, comes_kind, taken, eaten, spelled, enclosed, list_of, some_in_parentheses, in_parentheses, list_limit}
+use Rattle.dg_decl.specs.declared.expression.Cond.TheOpen.{Expr-F}
+use Rattle.dg_decl.specs.Readers.{Reader, comes, comes_kind, taken, eaten, spelled, enclosed, list_of, some_in_parentheses, in_parentheses, list_limit}
 use Rattle.dg_decl.specs.ExpressionForms.{nesting, nesting_limit, greatest, object, named, named_as, function, call_of, call_of_one, call_by_name, call_name, param_call_name, or_else, atom, comes_call, expression_within}
-use Rattle.dg_decl.specs.Written.{Written, atom_of, in_parens, name_token, word_token, sign_token, written, expression_written, separated, more_separated, list_tokens, list_depth, list_fits, count_fits}
-use Rattle.dg_decl.proofs.ExpressionsBack.{NoSign, NoCall, Stops, Ends, Facts, NoChoice, IsRead, reads_whole, atom_read, close_ends, enclosed_back, within_one}
+use Rattle.dg_decl.specs.Written.{Written, in_parens, name_token, word_token, sign_token, written, expression_written, separated, more_separated, list_tokens, list_depth, list_fits, count_fits}
+use Rattle.dg_decl.proofs.ExpressionsBack.{NoSign, Ends, IsRead, reads_whole, atom_read, close_ends, enclosed_back, within_one}
 
 -- ---- the greatest of numbers
 
@@ -128,7 +127,7 @@ unfolding comes comes_call
 object_read c es n all short within =
     atom_read (word_token (codes "new") ∷ (name_token c ∷ list_tokens (map written es))) (suc (list_depth (map written es))) (suc n) (is_name c && list_fits (map written es)) (expr.New c es)
     record { some = omega arith; fields = omega arith; added = omega arith; within = within; no_close = λ rest. refl; no_has = λ rest call. refl; no_ok = λ rest call. refl }
-    (λ rest. refl)
+    (λ rest. (refl, refl))
     (λ d le rest call. object_atom d c es (list_tokens (map written es)) rest (list_back d es rest all (part_depths d es le) short))
 
 cat_atom : (d : ℕ) (es : List Expr) (tokens rest : List Lexeme) → some_in_parentheses (expression_within d) (in_parens tokens ++ rest) ≡ Some (es, rest) → atom (expression_within d) (name_token (codes "cat") ∷ (in_parens tokens ++ rest)) ≡ Some (expr.Call call.Cat es, rest)
@@ -197,7 +196,7 @@ unfolding comes
 call_read f es n all short count within =
     atom_read (name_token (call_name f) ∷ list_tokens (map written es)) (suc (list_depth (map written es))) (suc n) (list_fits (map written es) && count_fits f (length (map written es))) (expr.Call f es)
     record { some = omega arith; fields = omega arith; added = omega arith; within = within; no_close = λ rest. refl; no_has = λ rest call. no_has_call f (list_tokens (map written es) ++ rest); no_ok = λ rest call. no_ok_call f (list_tokens (map written es) ++ rest) }
-    (λ rest. refl)
+    (λ rest. (refl, refl))
     (λ d le rest call. call_atom f d es rest count all (part_depths d es le) short)
 
 by_name_atom : (f : ParamCall) (d : ℕ) (p : Bytes) (rest : List Lexeme) → atom (expression_within d) (name_token (param_call_name f) ∷ (in_parens (name_token p ∷ []) ++ rest)) ≡ Some (expr.ByName f p, rest)
@@ -226,7 +225,7 @@ unfolding comes
 by_name_read f p =
     atom_read (name_token (param_call_name f) ∷ in_parens (name_token p ∷ [])) 1 1 (is_name p) (expr.ByName f p)
     record { some = omega arith; fields = omega arith; added = omega arith; within = within_one; no_close = λ rest. refl; no_has = λ rest call. no_has_by_name f (in_parens (name_token p ∷ []) ++ rest); no_ok = λ rest call. no_ok_by_name f (in_parens (name_token p ∷ []) ++ rest) }
-    (λ rest. refl)
+    (λ rest. (refl, refl))
     (λ d le rest call. by_name_atom f d p rest)
 
 or_else_atom : (d : ℕ) (p : Bytes) (e : Expr) (tokens rest : List Lexeme) → expression_within d (tokens ++ (close_paren ∷ rest)) ≡ Some (e, close_paren ∷ rest) → atom (expression_within d) (name_token (codes "orElse") ∷ (in_parens (name_token p ∷ (comma ∷ tokens)) ++ rest)) ≡ Some (expr.OrElse p e, rest)
@@ -238,5 +237,5 @@ unfolding comes comes_call
 or_else_read p s n e r within =
     atom_read (name_token (codes "orElse") ∷ in_parens (name_token p ∷ (comma ∷ s.tokens))) (suc s.depth) (suc n) (is_name p && s.fits) (expr.OrElse p e)
     record { some = omega arith; fields = omega arith; added = omega arith; within = within; no_close = λ rest. refl; no_has = λ rest call. refl; no_ok = λ rest call. refl }
-    (λ rest. refl)
+    (λ rest. (refl, refl))
     (λ d le rest call. (let below : s.depth ≤ d = omega (arith, le) in or_else_atom d p e s.tokens rest (reads_whole s n e r d below (close_paren ∷ rest) (close_ends rest))))
