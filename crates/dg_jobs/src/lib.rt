@@ -1,0 +1,9 @@
+//! Jobs that need one another's results: which are ready, which are handed out, and which are finished.
+#![tactic(auto)]
+
+mod memory;
+mod phase;
+mod piles;
+
+pub use memory::NoMemory;
+pub use phase::Phase;
