@@ -1,1 +1,5 @@
+pub mod Board
+pub mod Calls
+pub mod Counts
+pub mod Jobs
 pub mod Piles

@@ -1,9 +1,12 @@
 //! Jobs that need one another's results: which are ready, which are handed out, and which are finished.
 #![tactic(auto)]
 
+mod board;
+mod calls;
 mod memory;
 mod phase;
 mod piles;
 
+pub use calls::{JobCounts, JobEnd, Next};
 pub use memory::NoMemory;
 pub use phase::Phase;
