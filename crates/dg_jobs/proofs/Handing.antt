@@ -115,3 +115,50 @@ Filed t job pile from places ready is_places is_ready seen where_to = record {
   is = cc;
   seen = seen; where_to = where_to;
 }
+
+-- a job that was handed out is put on the pile of jobs that end
+pub Fits-ending : (t : Tables) (job : ℕ) (phase : Phase) (phases : List Phase) (places : List (Option ℕ)) (out : ℕ) → IsCalm t → phase_of t.phases job ≡ Out → is_out phase ≡ false → (phase ≡ Done) ⊎ ((other : ℕ) × (phase ≡ Waits other) × (other < length t.phases) × HasEnd t.ends other) → phases ≡ set t.phases job phase → out + 1 ≡ t.out → places ≡ set t.places job (Some (length t.phases + 1)) → Fits (changed t phases t.ends t.passed places t.ready out t.finished) (length phases) (length phases)
+Fits-ending t job phase phases places out calm is isnt kind is_phases is_out' is_places =
+    let held = held_out t job phase phases calm is is_phases in
+    let count = held.4 in
+    let t1 = changed t phases t.ends t.passed t.places t.ready out t.finished in
+    let t2 = changed t phases t.ends t.passed places t.ready out t.finished in
+    let f = Fits-out t job phase phases out calm is isnt is_phases is_out' in
+    let n = length t.phases in
+    let placed : Fits t2 (length phases) job = Fits-place t1 (length phases) job (Some (n + 1)) places t.ready f (omega (arith, held.3, count)) is_places (omega (arith, ap (λ x. one_if (is_on (length phases) x)) held.2, ap one_if (is_on-other (length phases) (n + 1) (λ e. absurd (omega (arith, count, e)))))) in
+    let on : choice_at places job ≡ Some (length phases + 1) = ap (λ xs. choice_at xs job) is_places ∙ get_or-set_same t.places job (Some (n + 1)) None (omega (arith, held.3, calm.fits.for_places)) ∙ ap (λ x. Some (x + 1)) (sym count) in
+    let here : Stands t2 (length phases) job = ⊎_elim
+      (λ (d : phase ≡ Done). Ends (held.0 ∙ d) held.1 on)
+      (λ (w : (other : ℕ) × (phase ≡ Waits other) × (other < n) × HasEnd t.ends other). Passes_on w.0 (held.0 ∙ w.1) held.1 on (omega (arith, w.2, count)) w.3)
+      kind in
+    Fits-drop t2 (length phases) job placed here
+
+-- a job that was handed out waits on one that isn't finished
+pub calm_await : (t : Tables) (job other : ℕ) (phases : List Phase) (places : List (Option ℕ)) (out : ℕ) → IsCalm t → phase_of t.phases job ≡ Out → other < length t.phases → choice_at t.ends other ≡ None → phases ≡ set t.phases job (Waits other) → out + 1 ≡ t.out → places ≡ set t.places job (Some other) → IsCalm (changed t phases t.ends t.passed places t.ready out t.finished)
+calm_await t job other phases places out calm is lt opens is_phases is_out' is_places =
+    let held = held_out t job (Waits other) phases calm is is_phases in
+    let count = held.4 in
+    let t1 = changed t phases t.ends t.passed t.places t.ready out t.finished in
+    let t2 = changed t phases t.ends t.passed places t.ready out t.finished in
+    let f = Fits-out t job (Waits other) phases out calm is refl is_phases is_out' in
+    let placed : Fits t2 (length phases) job = Fits-place t1 (length phases) job (Some other) places t.ready f (omega (arith, held.3, count)) is_places (omega (arith, ap (λ x. one_if (is_on (length phases) x)) held.2, ap one_if (is_on-other (length phases) other (λ e. absurd (omega (arith, lt, count, e)))))) in
+    let on : choice_at places job ≡ Some other = ap (λ xs. choice_at xs job) is_places ∙ get_or-set_same t.places job (Some other) None (omega (arith, held.3, calm.fits.for_places)) in
+    let here : Stands t2 (length phases) job = Awaits other held.0 held.1 on (omega (arith, lt, count)) (inl opens) in
+    let none : (pile : ℕ) → length phases < pile → NoneOn t pile → NoneOn t2 pile = λ pile past h x. subst (λ (xs : List (Option ℕ)). choice_at xs x ≢ Some pile) (sym is_places) (NoneOn-set t.places job (Some other) pile h (λ e. let same : other ≡ pile = cc in absurd (omega (arith, lt, count, past, same))) x) in
+    record {
+      fits = Fits-drop t2 (length phases) job placed here;
+      none_ends = none (length phases + 1) (omega arith) (NoneOn-count t (length t.phases + 1) (length phases + 1) (omega (arith, count)) calm.none_ends);
+      none_woken = none (length phases + 2) (omega arith) (NoneOn-count t (length t.phases + 2) (length phases + 2) (omega (arith, count)) calm.none_woken);
+      awake = subst (λ xs. (a input : ℕ) → phase_of xs a ≢ Asleep → Needs t.inputs a input → phase_of xs input ≢ Asleep) (sym is_phases) (awake-set t.inputs t.phases job (Waits other) (λ e. absurd (cc)) (λ e. absurd (cc)) calm.awake);
+    }
+
+-- nothing is woken while a job that was handed out ends
+pub none_woken_ending : (t : Tables) (job pile : ℕ) (places : List (Option ℕ)) → NoneOn t (length t.phases + 2) → places ≡ set t.places job (Some pile) → pile ≡ length t.phases + 1 → (other : ℕ) → choice_at places other ≢ Some (length t.phases + 2)
+none_woken_ending t job pile places none is past other = subst (λ (xs : List (Option ℕ)). choice_at xs other ≢ Some (length t.phases + 2)) (sym is) (NoneOn-set t.places job (Some pile) (length t.phases + 2) none (λ e. let same : pile ≡ length t.phases + 2 = cc in absurd (omega (arith, past, same))) other)
+
+-- the jobs are calm once all ends were passed on
+pub calm_settled : (t t' : Tables) (job : ℕ) (phase : Phase) (phases : List Phase) → IsCalm t → phase_of t.phases job ≡ Out → phase ≢ Asleep → phases ≡ set t.phases job phase → Fits t' (length t'.phases) (length t'.phases) → NoneOn t' (length t'.phases + 1) → NoneOn t' (length t'.phases + 2) → t'.inputs ≡ t.inputs → t'.phases ≡ phases → IsCalm t'
+calm_settled t t' job phase phases calm is awake is_phases fits none_ends none_woken same_inputs same = record {
+  fits = fits; none_ends = none_ends; none_woken = none_woken;
+  awake = subst (λ is. (a input : ℕ) → phase_of t'.phases a ≢ Asleep → Needs is a input → phase_of t'.phases input ≢ Asleep) (sym same_inputs) (subst (λ xs. (a input : ℕ) → phase_of xs a ≢ Asleep → Needs t.inputs a input → phase_of xs input ≢ Asleep) (sym (same ∙ is_phases)) (awake-set t.inputs t.phases job phase (λ e. absurd (cc)) awake calm.awake));
+}

@@ -1,6 +1,7 @@
 pub mod BoardLaws
 pub mod Handing
 pub mod Counts
+pub mod Demanding
 pub mod Filing
 pub mod Passing
 pub mod PileLaws

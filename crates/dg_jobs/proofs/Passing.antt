@@ -88,8 +88,8 @@ Passing-push t₀ t job other places places' p q isnt is =
     },
     omega (arith, q.fewer, ap (λ xs. count_by (is_on job) xs) is, count_by-set (is_on job) places other (Some (n + 1)) None within, ap (λ x. one_if (is_on job x)) q.free, ap one_if (is_on-other job (n + 1) (λ e. absurd (omega (arith, p.is_job, e))))))
 
-pub Passing-end : (t₀ t : Tables) (job : ℕ) → Passing t₀ job t → NoneOn t job → Fits t (length t.phases) (length t.phases)
-Passing-end t₀ t job p none = Fits-emptied t job p.fits none
+pub Passing-end : (t₀ t : Tables) (job : ℕ) (places : List (Option ℕ)) → Passing t₀ job t → places ≡ t.places → NoneOn t job → Fits (changed t t.phases t.ends t.passed places t.ready t.out t.finished) (length t.phases) (length t.phases)
+Passing-end t₀ t job places p is none = subst (λ xs. Fits (changed t t.phases t.ends t.passed xs t.ready t.out t.finished) (length t.phases) (length t.phases)) (sym is) (Fits-emptied t job p.fits none)
 
 -- while the ends that are left to note are noted
 pub record Settling (t₀ t : Tables) : Type 0 where

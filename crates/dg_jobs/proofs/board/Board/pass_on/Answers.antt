@@ -1,4 +1,4 @@
-use Rattle.std.proofs.Common.{◌≡◌, ◌+◌, ◌<◌, ℕ, length, set, get_or, refl, sym, ◌∙◌, ap, arith}
+use Rattle.std.proofs.Common.{◌≡◌, ◌≢◌, Some, ◌+◌, ◌<◌, ℕ, length, set, get_or, refl, sym, ◌∙◌, ap, arith}
 use Rattle.std.proofs.lemmas.List.{get_or_read}
 use Rattle.std.proofs.lemmas.List.Elements.{Contains-get_or}
 use Rattle.dg_jobs.specs.declared.board.Board.{Board}
@@ -40,10 +40,20 @@ loop-other-preserved-in-Wanted c =
     (Passing-file (tables c.args.self.now) t (tables c.file.new.self) c.args.job c.in-Some.other c.pop.new.self c.loop-other.invariant q wanted c.file.ensures.exact).0
 
 pub loop-other-smaller : goal.loop-other-smaller
-loop-other-smaller c = ?
+loop-other-smaller c =
+    let t = tables c.loop-other.self in
+    let q = passed (tables c.args.self.now) t c.args.job c.in-Some.other c.pop.new.self c.loop-other.invariant c.in-Some.ensures.exact.0 c.in-Some.ensures.exact.1 in
+    let isnt : phase_of t.phases c.in-Some.other ≢ Wanted = λ e. c.in_default-index.not-Wanted (phase_read c.loop-other.self c.in-Some.other c.index.result.now q.within c.index.ensures ∙ e) in
+    let is : c.push.new.self ≡ set c.pop.new.self c.in-Some.other (Some (length t.phases + 1)) = c.push.ensures.exact ∙ ap (λ n. set c.pop.new.self c.in-Some.other (Some (n + 1))) (c.len.ensures ∙ c.loop-other.self.phases.ok.0) in
+    (Passing-push (tables c.args.self.now) t c.args.job c.in-Some.other c.pop.new.self c.push.new.self c.loop-other.invariant q isnt is).1
 
 pub loop-other-preserved : goal.loop-other-preserved
-loop-other-preserved c = ?
+loop-other-preserved c =
+    let t = tables c.loop-other.self in
+    let q = passed (tables c.args.self.now) t c.args.job c.in-Some.other c.pop.new.self c.loop-other.invariant c.in-Some.ensures.exact.0 c.in-Some.ensures.exact.1 in
+    let isnt : phase_of t.phases c.in-Some.other ≢ Wanted = λ e. c.in_default-index.not-Wanted (phase_read c.loop-other.self c.in-Some.other c.index.result.now q.within c.index.ensures ∙ e) in
+    let is : c.push.new.self ≡ set c.pop.new.self c.in-Some.other (Some (length t.phases + 1)) = c.push.ensures.exact ∙ ap (λ n. set c.pop.new.self c.in-Some.other (Some (n + 1))) (c.len.ensures ∙ c.loop-other.self.phases.ok.0) in
+    (Passing-push (tables c.args.self.now) t c.args.job c.in-Some.other c.pop.new.self c.push.new.self c.loop-other.invariant q isnt is).0
 
 pub returns-clause-fits : goal.returns-clause-fits
-returns-clause-fits c = Passing-end (tables c.args.self.now) _ c.args.job c.loop-other.invariant ?
+returns-clause-fits c = Passing-end (tables c.args.self.now) (tables c.loop-other.self) c.args.job c.pop.new.self c.loop-other.invariant c.in_default.ensures.exact.0 c.in_default.ensures.exact.1
