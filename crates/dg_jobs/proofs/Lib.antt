@@ -6,4 +6,5 @@ pub mod Filing
 pub mod Passing
 pub mod PileLaws
 pub mod RowLaws
+pub mod Starting
 pub mod Waking

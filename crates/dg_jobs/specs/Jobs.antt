@@ -1,4 +1,4 @@
-use Rattle.std.specs.Prelude.{◌≡◌, ◌≢◌, ◌<◌, ◌⊎◌, ℕ, zero, suc, Option, Some, None, List, [], length, slice_index_or, slice_set, Contains}
+use Rattle.std.specs.Prelude.{◌≡◌, ◌≢◌, ◌<◌, ◌≤◌, ◌⊎◌, ℕ, zero, suc, Option, Some, None, List, [], length, slice_index_or, slice_set, Contains}
 use Rattle.dg_jobs.specs.declared.phase.Phase.{Phase}
 use Rattle.dg_jobs.specs.declared.phase.Phase.TheVariants.{Asleep, Wanted, Out, Waits, Done}
 
@@ -78,3 +78,8 @@ with_result jobs job result = record { inputs = jobs.inputs; phases = slice_set 
 -- the same jobs, where the result of one isn't kept
 abbrev pub without_result : {R : Type 0} → Jobs R → ℕ → Jobs R
 without_result jobs job = record { inputs = jobs.inputs; phases = jobs.phases; results = slice_set jobs.results job None }
+
+-- the least job that is handed out
+pub record IsFirstOut (phases : List Phase) (job : ℕ) : Type 0 where
+  pub is_out : IsOut phases job
+  pub least : (other : ℕ) → IsOut phases other → job ≤ other

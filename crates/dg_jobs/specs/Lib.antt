@@ -1,5 +1,6 @@
 pub mod Board
 pub mod Calls
+pub mod Core
 pub mod Counts
 pub mod Jobs
 pub mod Piles

@@ -1,6 +1,6 @@
 ghost use Rattle.std.specs.Prelude.{◌≡◌, ◌≢◌, ◌+◌, ◌^◌, ◌<◌, ◌≤◌, ◌⊎◌, ℕ, Some, None, All, IfOk, MatchOption, length, map, replicate, slice_index, slice_index_or, vec_len, slice_set};
 ghost use Rattle.dg_jobs.specs.Board.{tables, noted, Fits, HasEnd, IsCalm, IsFiled, MovesPiles, NoneOn, Tables, WaitsOnJob, WakesRow};
-ghost use Rattle.dg_jobs.specs.Jobs.{inputs_of, phase_of, IsOut, IsReady, Wakes};
+ghost use Rattle.dg_jobs.specs.Jobs.{inputs_of, phase_of, EndsAt, IsFinished, IsOut, IsReady, Wakes};
 ghost use Rattle.dg_jobs.specs.Piles.{choice_at};
 
 use crate::memory::NoMemory;
@@ -158,6 +158,17 @@ impl Board {
             self.piles.push(self.phases.len() + 1, job);
             self.settle();
         }
+    }
+
+    /// The job that is done and whose result the job has, if it is finished.
+    pub(crate) fn end_of(&self, job: u32) -> Option<u32>
+        requires { IsCalm (tables self.now) }
+        ensures exact { MatchOption result
+            (IsFinished self.now.phases.items job → ⊥)
+            (EndsAt self.now.phases.items job) }
+        ensures only { (last : ℕ) → EndsAt self.now.phases.items job last → result ≡ Some last }
+    {
+        if (job as usize) < self.ends.len() { self.ends[job as usize] } else { None }
     }
 
     /// Notes the ends that are to be passed on, and passes them on.

@@ -3,10 +3,12 @@
 
 mod board;
 mod calls;
+mod job_core;
 mod memory;
 mod phase;
 mod piles;
 
 pub use calls::{JobCounts, JobEnd, Next};
+pub use job_core::JobCore;
 pub use memory::NoMemory;
 pub use phase::Phase;
