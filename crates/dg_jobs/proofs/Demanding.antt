@@ -228,3 +228,21 @@ Wakes-set inputs root job phase before after awake was w =
           (λ (ne : job ≡ other → ⊥). w.woken other reaches (sym (get_or-set_other after job other phase Asleep (λ e. ne (sym e))) ∙ asleep))
           (cases_eq job other);
     }
+
+-- jobs that are asleep are on no pile
+pub free_when_asleep : (t : Tables) → IsCalm t → (other : ℕ) → phase_of t.phases other ≡ Asleep → choice_at t.places other ≡ None
+free_when_asleep t calm other asleep =
+    let n = length t.phases in
+    ⊎_elim (λ (lt : other < n). (when_asleep t n other (calm.fits.stands other lt (λ e. absurd (omega (arith, lt, e)))) asleep).1) (λ (past : n ≤ other). get_or_past t.places other None (omega (arith, past, calm.fits.for_places))) (cases_lt other n)
+
+-- a demand leaves a job that is handed out as it is
+pub still_out : (inputs : List (List ℕ)) (root : ℕ) (before after : List Phase) (job : ℕ) → Wakes inputs root before after → phase_of before job ≡ Out → phase_of after job ≡ Out
+still_out inputs root before after job w out = ⊎_elim (λ (same : phase_of after job ≡ phase_of before job). same ∙ out) (λ (more : Reaches inputs root job × (phase_of before job ≡ Asleep) × (phase_of after job ≡ Wanted)). absurd (let h = more.1 in cc)) (w.each job)
+
+pub some_end : (o : Option ℕ) → is_some o ≡ true → (last : ℕ) × (o ≡ Some last)
+some_end None h = absurd (cc)
+some_end (Some last) h = (last, refl)
+
+pub no_end : (o : Option ℕ) → is_some o ≡ false → o ≡ None
+no_end None h = refl
+no_end (Some last) h = absurd (cc)

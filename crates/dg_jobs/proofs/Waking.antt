@@ -69,3 +69,7 @@ WakesRow-more row i phases places phases₁ places₁ phases₂ places₂ w lt i
     (λ (a : (phase_of phases₁ job ≡ Asleep) × (phases₂ ≡ set phases₁ job Wanted) × (places₂ ≡ set places₁ job (Some (length phases₁ + 2)))).
     subst (λ r. P r phases₂ places₂) (sym all) (subst (λ p. P (take i row ++ job ∷ []) p places₂) (sym a.1) (subst (λ q. P (take i row ++ job ∷ []) (set phases₁ job Wanted) q) (sym a.2) (WakesRow-wake (take i row) phases places phases₁ places₁ job w in_range same_len free a.0))))
     cases
+
+-- a wanted job that is on no pile stays so
+pub kept_free : (row : List ℕ) (phases : List Phase) (places : List (Option ℕ)) (phases' : List Phase) (places' : List (Option ℕ)) (job : ℕ) → WakesRow row phases places phases' places' → phase_of phases job ≡ Wanted → choice_at places job ≡ None → choice_at places' job ≡ None
+kept_free row phases places phases' places' job w wanted free = ⊎_elim (λ (same : (phase_of phases' job ≡ phase_of phases job) × (choice_at places' job ≡ choice_at places job)). same.1 ∙ free) (λ (more : Contains row job × (phase_of phases job ≡ Asleep) × (phase_of phases' job ≡ Wanted) × (choice_at places' job ≡ Some (length phases + 2))). absurd (let h = more.1 in cc)) (w.each job)

@@ -69,7 +69,10 @@ impl<R: Drop> JobCore<R> {
         if let Some(job) = self.board.take() {
             return Next::Job { job };
         }
-        if self.board.out > 0 { Next::Idle } else { Next::Ended }
+        if self.board.out > 0 {
+            return Next::Idle;
+        }
+        Next::Ended
     }
 
     /// Ends a job that is handed out: with a result, or with that of another job, which this demands.
