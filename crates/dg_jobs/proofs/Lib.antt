@@ -1,5 +1,7 @@
 pub mod BoardLaws
 pub mod Handing
+pub mod CoreLaws
+pub mod Counted
 pub mod Counts
 pub mod Demanding
 pub mod Filing
