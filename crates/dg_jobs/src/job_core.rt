@@ -1,6 +1,6 @@
 ghost use Rattle.std.specs.Prelude.{◌≡◌, ◌≢◌, ◌^◌, ◌<◌, ◌↔◌, ◌⊎◌, ℕ, Some, None, All, IfOk, IsTrue, MatchOption, length, map, replicate, vec_len};
 ghost use Rattle.dg_jobs.specs.Calls.{AreCounts, IsEnd, IsEnded, IsTaken, NoneOut, NoneReady, SomeOut};
-ghost use Rattle.dg_jobs.specs.Jobs.{phase_of, result_at, with_phase, without_result, EndsAt, IsDemanded, IsFinished, IsFirstOut, IsOut, IsReady};
+ghost use Rattle.dg_jobs.specs.Jobs.{phase_of, result_at, with_phase, without_result, EndsAt, IsDemanded, IsFirstOut, IsOut};
 
 use crate::board::Board;
 use crate::calls::{JobCounts, JobEnd, Next};
@@ -100,13 +100,13 @@ impl<R: Drop> JobCore<R> {
         self.board.put_back(job);
     }
 
-    /// Hands out the result of a job, which stays finished. The jobs that need it, or wait on it, find no
-    /// result from then on: the caller sees to it that they are finished, and that none asks for it.
+    /// Hands out the result of a job that is done, which stays finished. A job that was forwarded has no result
+    /// of its own. The jobs that need this job, or wait on it, find no result from then on: the caller sees to
+    /// it that they are finished, and that none asks for it.
     pub fn release(&mut self, job: u32) -> Option<R>
-        requires job { job < length self.old.inputs }
-        requires own { (other : ℕ) → phase_of self.old.phases job ≢ Phase.Waits other }
+        requires { job < length self.old.inputs }
         ensures exact { result ≡ result_at self.old.results job }
-        ensures cause { (result ≡ None) ↔ ((IsFinished self.old.phases job → ⊥)
+        ensures cause { (result ≡ None) ↔ ((phase_of self.old.phases job ≢ Phase.Done)
             ⊎ (result_at self.old.results job ≡ None)) }
         ensures after { self.new ≡ without_result self.old job }
     {

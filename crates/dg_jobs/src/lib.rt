@@ -12,3 +12,6 @@ pub use calls::{JobCounts, JobEnd, Next};
 pub use job_core::JobCore;
 pub use memory::NoMemory;
 pub use phase::Phase;
+
+#[cfg(test)]
+mod tests;
