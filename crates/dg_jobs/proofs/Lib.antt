@@ -1,5 +1,6 @@
 pub mod BoardLaws
 pub mod Handing
+pub mod Hanging
 pub mod CoreLaws
 pub mod Counted
 pub mod Counts
@@ -7,6 +8,8 @@ pub mod Demanding
 pub mod Filing
 pub mod Passing
 pub mod PileLaws
+pub mod Repeats
 pub mod RowLaws
 pub mod Starting
+pub mod Taking
 pub mod Waking

@@ -3,4 +3,5 @@ pub mod Calls
 pub mod Core
 pub mod Counts
 pub mod Jobs
+pub mod Machine
 pub mod Piles

@@ -4,12 +4,14 @@
 mod board;
 mod calls;
 mod job_core;
+mod laws;
 mod memory;
 mod phase;
 mod piles;
 
 pub use calls::{JobCounts, JobEnd, Next};
 pub use job_core::JobCore;
+pub use laws::{nothing_hangs, taken_once};
 pub use memory::NoMemory;
 pub use phase::Phase;
 

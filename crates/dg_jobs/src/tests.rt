@@ -14,8 +14,8 @@ fn are_inputs(inputs: &Vec<Vec<u32>>) -> bool
     if inputs.len() >= 1 << 32 {
         return false;
     }
-    for row in inputs {
-        if !all_below(row.as_slice(), inputs.len()) {
+    for job in 0..inputs.len() {
+        if !all_below(inputs[job].as_slice(), inputs.len()) {
             return false;
         }
     }

@@ -1,0 +1,21 @@
+ghost use Rattle.std.specs.Prelude.{◌≡◌, ◌≢◌, ◌+◌, ◌≤◌, ℕ, List};
+ghost use Rattle.dg_jobs.specs.Calls.{NoneOut, NoneReady};
+ghost use Rattle.dg_jobs.specs.Jobs.{phase_of, IsFinished};
+ghost use Rattle.dg_jobs.specs.Machine.{put_backs_of, takes_of, AreInputs, Event, Legal, Meanings, State};
+
+use crate::phase::Phase;
+
+/// A law: each job is taken at most once more often than it was put back.
+pub fn taken_once<R, C>()
+    ensures { (m : Meanings R C) (events : List (Event R C)) (t : State R C) → Legal m events t
+        → (job : ℕ) → takes_of events job ≤ put_backs_of events job + 1 }
+{
+}
+
+/// A law: where no job is ready and none is handed out, every job that isn't asleep is finished.
+pub fn nothing_hangs<R, C>()
+    ensures { (m : Meanings R C) (events : List (Event R C)) (t : State R C) → AreInputs m.inputs
+        → Legal m events t → NoneReady t.jobs → NoneOut t.jobs
+        → (job : ℕ) → phase_of t.jobs.phases job ≢ Phase.Asleep → IsFinished t.jobs.phases job }
+{
+}
