@@ -1,4 +1,5 @@
 pub mod BoardLaws
+pub mod Finishing
 pub mod Handing
 pub mod Hanging
 pub mod CoreLaws
