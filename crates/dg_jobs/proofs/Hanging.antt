@@ -51,7 +51,7 @@ Chain-join inputs phases (suc steps) more job middle last w v = subst (λ n. Cha
     more_one = omega arith
 
 -- what a change of one phase does to another job's
-set_cases : (phases : List Phase) (at job : ℕ) (phase : Phase) → phase_of phases at ≢ Asleep → ((at ≡ job) × (phase_of (set phases at phase) job ≡ phase)) ⊎ ((at ≡ job → ⊥) × (phase_of (set phases at phase) job ≡ phase_of phases job))
+pub set_cases : (phases : List Phase) (at job : ℕ) (phase : Phase) → phase_of phases at ≢ Asleep → ((at ≡ job) × (phase_of (set phases at phase) job ≡ phase)) ⊎ ((at ≡ job → ⊥) × (phase_of (set phases at phase) job ≡ phase_of phases job))
 set_cases phases at job phase awake =
     ⊎_elim
     (λ (e : at ≡ job). inl (e, ap (λ x. phase_of (set phases at phase) x) (sym e) ∙ get_or-set_same phases at phase Asleep (is_job phases at awake)))
@@ -75,10 +75,10 @@ stays_set inputs jobs phases phases' at phase s changed was is waits_not =
     subst (λ x. Stays inputs jobs x) (sym changed) made
 
 -- what a wake does
-wakes_mono : (inputs : List (List ℕ)) (root : ℕ) (before after : List Phase) → Wakes inputs root before after → (job : ℕ) → phase_of before job ≢ Asleep → phase_of after job ≢ Asleep
+pub wakes_mono : (inputs : List (List ℕ)) (root : ℕ) (before after : List Phase) → Wakes inputs root before after → (job : ℕ) → phase_of before job ≢ Asleep → phase_of after job ≢ Asleep
 wakes_mono inputs root before after w job awake asleep = ⊎_elim (λ (same : phase_of after job ≡ phase_of before job). awake (sym same ∙ asleep)) (λ (more : Reaches inputs root job × (phase_of before job ≡ Asleep) × (phase_of after job ≡ Wanted)). absurd (let h = more.2 in cc)) (w.each job)
 
-wakes_waits : (inputs : List (List ℕ)) (root : ℕ) (before after : List Phase) → Wakes inputs root before after → (job other : ℕ) → phase_of after job ≡ Waits other → phase_of before job ≡ Waits other
+pub wakes_waits : (inputs : List (List ℕ)) (root : ℕ) (before after : List Phase) → Wakes inputs root before after → (job other : ℕ) → phase_of after job ≡ Waits other → phase_of before job ≡ Waits other
 wakes_waits inputs root before after w job other e = ⊎_elim (λ (same : phase_of after job ≡ phase_of before job). sym same ∙ e) (λ (more : Reaches inputs root job × (phase_of before job ≡ Asleep) × (phase_of after job ≡ Wanted)). absurd (let h = more.2 in cc)) (w.each job)
 
 wakes_awake : (inputs : List (List ℕ)) (root : ℕ) (before after : List Phase) → Wakes inputs root before after → InputsAwake inputs before → InputsAwake inputs after
@@ -176,7 +176,7 @@ stays_from : {R C : Type 0} (m : Meanings R C) (events : List (Event R C)) (s t 
 stays_from m [] s t is st = subst (λ x. Stays m.inputs x.jobs.inputs x.jobs.phases) (sym is) st
 stays_from m (event ∷ events) s t run st = stays_from m events run.0 t run.3 (stays_next m s run.0 event run.1 run.2 st)
 
-all_asleep : (n job : ℕ) → phase_of (replicate n Asleep) job ≡ Asleep
+pub all_asleep : (n job : ℕ) → phase_of (replicate n Asleep) job ≡ Asleep
 all_asleep n job = ⊎_elim (λ (lt : job < n). get_or-replicate n job Asleep Asleep lt) (λ past. get_or_past (replicate n Asleep) job Asleep (omega (arith, length-replicate n Asleep, past))) (cases_lt job n)
 
 pub stays_legal : {R C : Type 0} (m : Meanings R C) (events : List (Event R C)) (t : State R C) → AreInputs m.inputs → Legal m events t → Stays m.inputs t.jobs.inputs t.jobs.phases

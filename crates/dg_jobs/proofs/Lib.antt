@@ -10,6 +10,7 @@ pub mod Filing
 pub mod Passing
 pub mod PileLaws
 pub mod Repeats
+pub mod Rightness
 pub mod RowLaws
 pub mod Starting
 pub mod Taking

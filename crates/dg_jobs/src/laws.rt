@@ -1,5 +1,6 @@
 ghost use Rattle.std.specs.Prelude.{◌≡◌, ◌≢◌, ◌+◌, ◌≤◌, ℕ, List};
 ghost use Rattle.dg_jobs.specs.Calls.{NoneOut, NoneReady};
+ghost use Rattle.dg_jobs.specs.Faithful.{AreRight, Faithful, FitTogether};
 ghost use Rattle.dg_jobs.specs.Jobs.{phase_of, IsFinished};
 ghost use Rattle.dg_jobs.specs.Machine.{put_backs_of, takes_of, AreInputs, Event, Legal, Meanings, State};
 
@@ -17,5 +18,13 @@ pub fn nothing_hangs<R, C>()
     ensures { (m : Meanings R C) (events : List (Event R C)) (t : State R C) → AreInputs m.inputs
         → Legal m events t → NoneReady t.jobs → NoneOut t.jobs
         → (job : ℕ) → phase_of t.jobs.phases job ≢ Phase.Asleep → IsFinished t.jobs.phases job }
+{
+}
+
+/// A law: where events are faithful to what jobs mean, finished jobs have the results that they mean, full cells
+/// hold what they mean, and what is made is what is used.
+pub fn faithful_runs<R, C>()
+    ensures { (m : Meanings R C) (events : List (Event R C)) (t : State R C) → FitTogether m
+        → Faithful m events t → AreRight m t }
 {
 }
