@@ -164,7 +164,7 @@ stays_forward inputs jobs at to before after s out none w =
     }
 
 -- each kind of event
-stays_next : {R C : Type 0} (m : Meanings R C) (s t : State R C) (event : Event R C) → MayCome m s event → Comes m s event t → Stays m.inputs s.jobs.inputs s.jobs.phases → Stays m.inputs t.jobs.inputs t.jobs.phases
+pub stays_next : {R C : Type 0} (m : Meanings R C) (s t : State R C) (event : Event R C) → MayCome m s event → Comes m s event t → Stays m.inputs s.jobs.inputs s.jobs.phases → Stays m.inputs t.jobs.inputs t.jobs.phases
 stays_next m s t (Demand at) may comes st = subst (λ x. Stays m.inputs x t.jobs.phases) (sym comes.0.inputs) (stays_wake m.inputs s.jobs.inputs at s.jobs.phases t.jobs.phases st comes.0.phases)
 stays_next m s t (Take at) may comes st = let was = may.wanted in subst (λ x. Stays m.inputs x t.jobs.phases) (ap (λ x. x.inputs) (sym comes.0)) (stays_set m.inputs s.jobs.inputs s.jobs.phases t.jobs.phases at Out st (ap (λ x. x.phases) comes.0) (λ e. absurd (cc)) (λ e. absurd (cc)) (λ o e. absurd (cc)))
 stays_next m s t (Finish at result) may comes st = subst (λ x. Stays m.inputs x t.jobs.phases) (ap (λ x. x.inputs) (sym comes.0)) (stays_set m.inputs s.jobs.inputs s.jobs.phases t.jobs.phases at Done st (ap (λ x. x.phases) comes.0) (λ e. absurd (cc)) (λ e. absurd (cc)) (λ o e. absurd (cc)))
