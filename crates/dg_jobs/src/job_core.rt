@@ -63,6 +63,7 @@ impl<R: Drop> JobCore<R> {
     /// Hands out a ready job, if there is one.
     pub fn take(&mut self) -> Next
         ensures exact { IsTaken self.old result self.new }
+        ensures kept { self.new.inputs ≡ self.old.inputs }
         ensures idle { (result ≡ Next.Idle) ↔ (NoneReady self.old × SomeOut self.old) }
         ensures ended { (result ≡ Next.Ended) ↔ (NoneReady self.old × NoneOut self.old) }
     {
@@ -82,6 +83,7 @@ impl<R: Drop> JobCore<R> {
         requires out { IsOut self.old.phases job }
         requires end { IsEnd self.old end }
         ensures exact { IsEnded self.old job end self.new }
+        ensures kept { self.new.inputs ≡ self.old.inputs }
     {
         match end {
             JobEnd::Done(result) => {
