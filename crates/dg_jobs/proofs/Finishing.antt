@@ -2,10 +2,11 @@ use Rattle.std.proofs.Common.{◌≡◌, ◌≢◌, ◌+◌, ◌<◌, ◌≤◌,
 use Rattle.dg_jobs.specs.declared.phase.Phase.{Phase}
 use Rattle.dg_jobs.specs.declared.phase.Phase.TheVariants.{Asleep, Wanted, Out, Waits, Done}
 use Rattle.dg_jobs.specs.Calls.{NoneOut, NoneReady}
+use Rattle.dg_jobs.specs.Invariant.{NoReturn, Stays}
 use Rattle.dg_jobs.specs.Jobs.{Jobs, phase_of, EndsAt, IsFinished, IsOut, IsReady, Needs}
 use Rattle.dg_jobs.specs.Machine.{AreInputs, Chain, LeadsTo, Legal, Meanings, Event, State}
 use Rattle.dg_jobs.proofs.BoardLaws.{is_job}
-use Rattle.dg_jobs.proofs.Hanging.{Chain-join, NoReturn, Stays, stays_legal}
+use Rattle.dg_jobs.proofs.Hanging.{Chain-join, stays_legal}
 use Rattle.dg_jobs.proofs.Repeats.{two_with_one_value}
 
 -- jobs on a walk, the last one first

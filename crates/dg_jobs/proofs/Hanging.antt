@@ -5,31 +5,12 @@ use Rattle.dg_jobs.specs.declared.phase.Phase.{Phase}
 use Rattle.dg_jobs.specs.declared.phase.Phase.TheVariants.{Asleep, Wanted, Out, Waits, Done}
 use Rattle.dg_jobs.specs.Calls.{NoneOut, NoneReady}
 use Rattle.dg_jobs.specs.Jobs.{Jobs, phase_of, EndsAt, IsDemanded, IsFinished, IsOut, IsReady, Needs, Reaches, Wakes, Walk, with_phase, with_result}
+use Rattle.dg_jobs.specs.Invariant.{InputsAwake, InputsFinished, NoReturn, Stays, TargetsAwake}
 use Rattle.dg_jobs.specs.Machine.{AreInputs, Chain, Comes, Demand, Event, Fill, Finish, Forward, LeadsTo, Legal, LegalFrom, MayCome, Meanings, PutBack, State, Take, start}
-use Rattle.dg_jobs.proofs.BoardLaws.{is_job}
+use Rattle.dg_jobs.proofs.BoardLaws.{is_job, EndsAt-keeps}
 use Rattle.dg_jobs.proofs.Demanding.{Reaches-more}
 use Rattle.dg_jobs.proofs.Filing.{awake-set}
 use Rattle.dg_jobs.proofs.Repeats.{two_with_one_value}
-
--- the inputs of jobs that aren't asleep aren't asleep
-abbrev pub InputsAwake : List (List ℕ) → List Phase → Type 0
-InputsAwake inputs phases = (job input : ℕ) → phase_of phases job ≢ Asleep → Needs inputs job input → phase_of phases input ≢ Asleep
-
--- what a job waits on isn't asleep
-abbrev pub TargetsAwake : List Phase → Type 0
-TargetsAwake phases = (job other : ℕ) → phase_of phases job ≡ Waits other → phase_of phases other ≢ Asleep
-
--- no walk of inputs and forwards returns
-abbrev pub NoReturn : List (List ℕ) → List Phase → Type 0
-NoReturn inputs phases = (job steps : ℕ) → Chain inputs phases (suc steps) job job → ⊥
-
--- what is so after every legal list, whatever the jobs mean
-pub record Stays (inputs : List (List ℕ)) (jobs : List (List ℕ)) (phases : List Phase) : Type 0 where
-  pub same : jobs ≡ inputs
-  pub count : length phases ≡ length jobs
-  pub awake : InputsAwake jobs phases
-  pub targets : TargetsAwake phases
-  pub no_return : NoReturn jobs phases
 
 -- a walk stays one where its forwards do
 Chain-keeps : (inputs : List (List ℕ)) (phases phases' : List Phase) → ((job other : ℕ) → phase_of phases job ≡ Waits other → phase_of phases' job ≡ Waits other) → (steps job other : ℕ) → Chain inputs phases steps job other → Chain inputs phases' steps job other
@@ -189,3 +170,35 @@ stays_legal m events t are legal =
       targets = λ job other e. absurd (let h = all_asleep n job in cc);
       no_return = λ job steps w. are.no_return job steps (Chain-keeps m.inputs (replicate n Asleep) [] (λ a o e. absurd (let h = all_asleep n a in cc)) (suc steps) job job w);
     })
+
+-- a job that is finished stays so
+finished_keeps : (phases phases' : List Phase) → ((job : ℕ) → phase_of phases job ≡ Done → phase_of phases' job ≡ Done) → ((job other : ℕ) → phase_of phases job ≡ Waits other → phase_of phases' job ≡ Waits other) → (job : ℕ) → IsFinished phases job → IsFinished phases' job
+finished_keeps phases phases' done waits job finished = (finished.0, EndsAt-keeps phases phases' done waits job finished.0 finished.1)
+
+-- a change of a job that is neither done nor waits
+fed_set : (inputs : List (List ℕ)) (phases : List Phase) (at : ℕ) (phase : Phase) → InputsFinished inputs phases → phase_of phases at ≢ Asleep → phase_of phases at ≢ Done → ((other : ℕ) → phase_of phases at ≢ Waits other) → (phase ≢ Wanted → (input : ℕ) → Needs inputs at input → IsFinished phases input) → InputsFinished inputs (set phases at phase)
+fed_set inputs phases at phase fed was not_done not_waits here job input awake taken needs =
+    let elsewhere : (x : ℕ) → (at ≡ x → ⊥) → phase_of (set phases at phase) x ≡ phase_of phases x = λ x ne. get_or-set_other phases at x phase Asleep (λ e. ne (sym e)) in
+    let keeps : (x : ℕ) → IsFinished phases x → IsFinished (set phases at phase) x = finished_keeps phases (set phases at phase) (λ x done. elsewhere x (λ e. not_done (ap (λ y. phase_of phases y) e ∙ done)) ∙ done) (λ x o waits. elsewhere x (λ e. not_waits o (ap (λ y. phase_of phases y) e ∙ waits)) ∙ waits) in
+    ⊎_elim
+    (λ (h : (at ≡ job) × (phase_of (set phases at phase) job ≡ phase)). keeps input (here (λ e. taken (h.1 ∙ e)) input (subst (λ x. Needs inputs x input) (sym h.0) needs)))
+    (λ (o : (at ≡ job → ⊥) × (phase_of (set phases at phase) job ≡ phase_of phases job)). keeps input (fed job input (λ e. awake (o.1 ∙ e)) (λ e. taken (o.1 ∙ e)) needs))
+    (set_cases phases at job phase was)
+
+fed_wake : (inputs : List (List ℕ)) (root : ℕ) (before after : List Phase) → InputsFinished inputs before → Wakes inputs root before after → InputsFinished inputs after
+fed_wake inputs root before after fed w job input awake taken needs =
+    let keeps : (x : ℕ) → IsFinished before x → IsFinished after x = finished_keeps before after (λ x done. ⊎_elim (λ (same : phase_of after x ≡ phase_of before x). same ∙ done) (λ (more : Reaches inputs root x × (phase_of before x ≡ Asleep) × (phase_of after x ≡ Wanted)). absurd (let h = more.1 in cc)) (w.each x)) (λ x o waits. ⊎_elim (λ (same : phase_of after x ≡ phase_of before x). same ∙ waits) (λ (more : Reaches inputs root x × (phase_of before x ≡ Asleep) × (phase_of after x ≡ Wanted)). absurd (let h = more.1 in cc)) (w.each x)) in
+    ⊎_elim
+    (λ (same : phase_of after job ≡ phase_of before job). keeps input (fed job input (λ e. awake (same ∙ e)) (λ e. taken (same ∙ e)) needs))
+    (λ (more : Reaches inputs root job × (phase_of before job ≡ Asleep) × (phase_of after job ≡ Wanted)). absurd (taken more.2))
+    (w.each job)
+
+pub fed_next : {R C : Type 0} (m : Meanings R C) (s t : State R C) (event : Event R C) → MayCome m s event → Comes m s event t → InputsFinished s.jobs.inputs s.jobs.phases → InputsFinished t.jobs.inputs t.jobs.phases
+fed_next m s t (Demand at) may comes fed = subst (λ x. InputsFinished x t.jobs.phases) (sym comes.0.inputs) (fed_wake s.jobs.inputs at s.jobs.phases t.jobs.phases fed comes.0.phases)
+fed_next {R} {C} m s t (Take at) may comes fed = let was = may.wanted in subst (λ (x : Jobs R). InputsFinished x.inputs x.phases) (sym comes.0) (fed_set s.jobs.inputs s.jobs.phases at Out fed (λ e. absurd (cc)) (λ e. absurd (cc)) (λ o e. absurd (cc)) (λ _ input needs. may.fed input needs))
+fed_next {R} {C} m s t (Finish at result) may comes fed = subst (λ (x : Jobs R). InputsFinished x.inputs x.phases) (sym comes.0) (fed_set s.jobs.inputs s.jobs.phases at Done fed (λ e. absurd (cc)) (λ e. absurd (cc)) (λ o e. absurd (cc)) (λ _ input needs. fed at input (λ e. absurd (cc)) (λ e. absurd (cc)) needs))
+fed_next m s t (Forward at to) may comes fed =
+    let out = may.0 in
+    subst (λ x. InputsFinished x t.jobs.phases) (sym comes.0.inputs) (fed_wake s.jobs.inputs to (set s.jobs.phases at (Waits to)) t.jobs.phases (fed_set s.jobs.inputs s.jobs.phases at (Waits to) fed (λ e. absurd (cc)) (λ e. absurd (cc)) (λ o e. absurd (cc)) (λ _ input needs. fed at input (λ e. absurd (cc)) (λ e. absurd (cc)) needs)) comes.0.phases)
+fed_next {R} {C} m s t (PutBack at) may comes fed = subst (λ (x : Jobs R). InputsFinished x.inputs x.phases) (sym comes.0) (fed_set s.jobs.inputs s.jobs.phases at Wanted fed (λ e. absurd (cc)) (λ e. absurd (cc)) (λ o e. absurd (cc)) (λ ne input needs. absurd (ne refl)))
+fed_next {R} {C} m s t (Fill cell) may comes fed = subst (λ (x : Jobs R). InputsFinished x.inputs x.phases) (sym comes.0) fed

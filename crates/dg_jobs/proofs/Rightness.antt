@@ -5,15 +5,12 @@ use Rattle.dg_jobs.specs.declared.phase.Phase.{Phase}
 use Rattle.dg_jobs.specs.declared.phase.Phase.TheVariants.{Asleep, Wanted, Out, Waits, Done}
 use Rattle.dg_jobs.specs.Calls.{NoneOut, NoneReady}
 use Rattle.dg_jobs.specs.Faithful.{AreRight, Faithful, FaithfulFrom, FitTogether, GoesOn, IsFaithful, IsMade, IsUsed, MeaningWalk, ScopedFull, UsedAfter}
+use Rattle.dg_jobs.specs.Invariant.{IsWanted, Keeps, Stays}
 use Rattle.dg_jobs.specs.Jobs.{Jobs, inputs_of, phase_of, result_at, EndsAt, Follows, IsDemanded, IsFinished, IsOut, IsReady, Needs, Reaches, Wakes, Walk, with_phase, with_result}
 use Rattle.dg_jobs.specs.Machine.{AreInputs, Chain, Comes, Demand, Event, Fill, Finish, Forward, IsFull, LeadsTo, Legal, LegalFrom, MayCome, Meanings, PutBack, State, Take, start}
 use Rattle.dg_jobs.proofs.BoardLaws.{is_job}
 use Rattle.dg_jobs.proofs.Finishing.{all_finished}
-use Rattle.dg_jobs.proofs.Hanging.{Stays, all_asleep, set_cases, stays_legal, stays_next, wakes_waits}
-
--- a job that is wanted for an ask: an ask, or the job of a cell that is used
-abbrev pub IsWanted : {R C : Type 0} → Meanings R C → ℕ → Type 0
-IsWanted {R} {C} m job = (job < m.asks) ⊎ ((cell : C) × (m.job_of cell ≡ Some job) × IsUsed m cell)
+use Rattle.dg_jobs.proofs.Hanging.{all_asleep, set_cases, stays_legal, stays_next, wakes_waits}
 
 -- what such a job uses is used
 wanted_uses : {R C : Type 0} (m : Meanings R C) (job : ℕ) (cell : C) → IsWanted m job → Contains (m.uses job) cell → IsUsed m cell
@@ -37,14 +34,6 @@ has_inputs inputs job other needs =
 wanted_reaches : {R C : Type 0} (m : Meanings R C) → FitTogether m → (steps job other : ℕ) → IsWanted m job → Walk m.inputs steps job other → IsWanted m other
 wanted_reaches m fit zero job other wanted w = subst (λ x. IsWanted m x) w wanted
 wanted_reaches m fit (suc steps) job other wanted w = wanted_reaches m fit steps w.0 other (wanted_on m job w.0 fit (has_inputs m.inputs job w.0 w.1) wanted (inl w.1)) w.2
-
--- what is so after every faithful list
-pub record Keeps {R C : Type 0} (m : Meanings R C) (phases : List Phase) (results : List (Option R)) (full : List (C × R)) : Type 0 where
-  pub for_results : length results ≡ length phases
-  pub done : (job : ℕ) → phase_of phases job ≡ Done → (result_at results job ≡ Some (m.meaning job)) × (m.ends_in job ≡ None) × ScopedFull m full job
-  pub waits : (job other : ℕ) → phase_of phases job ≡ Waits other → (m.ends_in job ≡ Some other) × ScopedFull m full job
-  pub full_is : (cell : C) (kept : R) → Contains full (cell, kept) → (kept ≡ m.content cell) × IsUsed m cell
-  pub wanted : (job : ℕ) → phase_of phases job ≢ Asleep → IsWanted m job
 
 -- a change to a phase that is neither done nor waits
 keeps_set : {R C : Type 0} (m : Meanings R C) (phases phases' : List Phase) (results : List (Option R)) (full : List (C × R)) (at : ℕ) (phase : Phase) → Keeps m phases results full → phases' ≡ set phases at phase → phase_of phases at ≢ Asleep → phase ≢ Done → ((other : ℕ) → phase ≢ Waits other) → Keeps m phases' results full
@@ -126,7 +115,7 @@ keeps_fill {R} {C} m phases results full cell k used =
     }
 
 -- each kind of event
-keeps_next : {R C : Type 0} (m : Meanings R C) (s t : State R C) (event : Event R C) → FitTogether m → s.jobs.inputs ≡ m.inputs → length s.jobs.phases ≡ length m.inputs → MayCome m s event → IsFaithful m s event → Comes m s event t → Keeps m s.jobs.phases s.jobs.results s.full → Keeps m t.jobs.phases t.jobs.results t.full
+pub keeps_next : {R C : Type 0} (m : Meanings R C) (s t : State R C) (event : Event R C) → FitTogether m → s.jobs.inputs ≡ m.inputs → length s.jobs.phases ≡ length m.inputs → MayCome m s event → IsFaithful m s event → Comes m s event t → Keeps m s.jobs.phases s.jobs.results s.full → Keeps m t.jobs.phases t.jobs.results t.full
 keeps_next {R} {C} m s t (Demand at) fit inputs count may faithful comes k =
     let w : Wakes m.inputs at s.jobs.phases t.jobs.phases = subst (λ x. Wakes x at s.jobs.phases t.jobs.phases) inputs comes.0.phases in
     let made : Keeps m t.jobs.phases s.jobs.results s.full = keeps_wake m at s.jobs.phases t.jobs.phases s.jobs.results s.full fit k (inl faithful) w in

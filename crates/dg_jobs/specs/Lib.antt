@@ -3,6 +3,7 @@ pub mod Calls
 pub mod Core
 pub mod Counts
 pub mod Faithful
+pub mod Invariant
 pub mod Jobs
 pub mod Machine
 pub mod Piles

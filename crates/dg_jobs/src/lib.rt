@@ -11,7 +11,7 @@ mod piles;
 
 pub use calls::{JobCounts, JobEnd, Next};
 pub use job_core::JobCore;
-pub use laws::{faithful_runs, nothing_hangs, taken_once};
+pub use laws::{faithful_runs, invariant_is_kept, nothing_hangs, taken_once};
 pub use memory::NoMemory;
 pub use phase::Phase;
 
