@@ -42,17 +42,35 @@ Stands-frame t phases ends passed places ready out finished current current' job
 -- a job is taken into the hand
 pub Fits-hold : (t : Tables) (current job : ℕ) → Fits t current (length t.phases) → Fits t current job
 Fits-hold t current job f = record {
-  small = f.small; for_inputs = f.for_inputs; for_ends = f.for_ends; for_passed = f.for_passed; for_places = f.for_places; in_range = f.in_range;
+  small = f.small;
+  for_inputs = f.for_inputs;
+  for_ends = f.for_ends;
+  for_passed = f.for_passed;
+  for_places = f.for_places;
+  in_range = f.in_range;
   stands = λ other lt ne. f.stands other lt (λ e. absurd (omega (arith, lt, e)));
-  lasts = f.lasts; passed = f.passed; ready = f.ready; out = f.out; finished = f.finished;
+  lasts = f.lasts;
+  passed = f.passed;
+  ready = f.ready;
+  out = f.out;
+  finished = f.finished;
 }
 
 -- a job in the hand that stands somewhere is let go
 pub Fits-drop : (t : Tables) (current job : ℕ) → Fits t current job → Stands t current job → Fits t current (length t.phases)
 Fits-drop t current job f here = record {
-  small = f.small; for_inputs = f.for_inputs; for_ends = f.for_ends; for_passed = f.for_passed; for_places = f.for_places; in_range = f.in_range;
+  small = f.small;
+  for_inputs = f.for_inputs;
+  for_ends = f.for_ends;
+  for_passed = f.for_passed;
+  for_places = f.for_places;
+  in_range = f.in_range;
   stands = λ other lt _. ⊎_elim (λ (e : job ≡ other). let P : ℕ → Type 0 = λ x. Stands t current x in subst P e here) (λ (ne : job ≡ other → ⊥). f.stands other lt (λ e. ne (sym e))) (cases_eq job other);
-  lasts = f.lasts; passed = f.passed; ready = f.ready; out = f.out; finished = f.finished;
+  lasts = f.lasts;
+  passed = f.passed;
+  ready = f.ready;
+  out = f.out;
+  finished = f.finished;
 }
 
 -- what a job on a pile of none of the three kinds makes of the count of ready jobs
@@ -68,13 +86,18 @@ Fits-place t current job place places ready f lt is counts =
     let P : List (Option ℕ) → Type 0 = λ xs. Fits (changed t t.phases t.ends t.passed xs ready t.out t.finished) current job in
     let within : job < length t.places = omega (arith, lt, f.for_places) in
     let made : P (set t.places job place) = record {
-      small = f.small; for_inputs = f.for_inputs; for_ends = f.for_ends; for_passed = f.for_passed;
+      small = f.small;
+      for_inputs = f.for_inputs;
+      for_ends = f.for_ends;
+      for_passed = f.for_passed;
       for_places = length-set t.places job place ∙ f.for_places;
       in_range = f.in_range;
       stands = λ other lt ne. Stands-frame t t.phases t.ends t.passed (set t.places job place) ready t.out t.finished current current other refl refl refl (get_or-set_other t.places job other place None ne) (λ input h. h) (λ input _ _ o. o) (f.stands other lt ne);
-      lasts = f.lasts; passed = f.passed;
+      lasts = f.lasts;
+      passed = f.passed;
       ready = omega (arith, count_by-set (is_on (length t.phases)) t.places job place None within, counts, f.ready);
-      out = f.out; finished = f.finished;
+      out = f.out;
+      finished = f.finished;
     } in
     subst P (sym is) made
 
@@ -119,13 +142,17 @@ Fits-note t job last ends finished f lt open_end ends_at is counts =
     let other_end : (other : ℕ) → (other ≡ job → ⊥) → choice_at ends' other ≡ choice_at t.ends other = λ other ne. get_or-set_other t.ends job other (Some last) None ne in
     let keeps : (input : ℕ) → HasEnd t.ends input → HasEnd ends' input = λ input h. ⊎_elim (λ (e : job ≡ input). (last, ap (λ x. choice_at ends' x) (sym e) ∙ same)) (λ (ne : job ≡ input → ⊥). (h.0, other_end input (λ e. ne (sym e)) ∙ h.1)) (cases_eq job input) in
     let made : P ends' = record {
-      small = f.small; for_inputs = f.for_inputs;
+      small = f.small;
+      for_inputs = f.for_inputs;
       for_ends = length-set t.ends job (Some last) ∙ f.for_ends;
-      for_passed = f.for_passed; for_places = f.for_places; in_range = f.in_range;
+      for_passed = f.for_passed;
+      for_places = f.for_places;
+      in_range = f.in_range;
       stands = λ other lt ne. Stands-frame t t.phases ends' t.passed t.places t.ready t.out finished (length t.phases) job other refl refl (other_end other ne) refl keeps (λ input _ lt o. ⊎_elim (λ (none : choice_at t.ends input ≡ None). ⊎_elim (λ (e : job ≡ input). inr (sym e)) (λ (ne : job ≡ input → ⊥). inl (other_end input (λ e. ne (sym e)) ∙ none)) (cases_eq job input)) (λ (past : input ≡ length t.phases). absurd (omega (arith, lt, past))) o) (f.stands other lt ne);
       lasts = λ a l e. ⊎_elim (λ (h : job ≡ a). let same_last : last ≡ l = (let here : choice_at ends' job ≡ Some l = ap (λ x. choice_at ends' x) h ∙ e in cc) in let Q : ℕ → ℕ → Type 0 = λ x y. EndsAt t.phases x y in subst (λ x. Q x l) h (subst (λ y. Q job y) same_last ends_at)) (λ (ne : job ≡ a → ⊥). f.lasts a l (sym (other_end a (λ e. ne (sym e))) ∙ e)) (cases_eq job a);
       passed = λ a i lt. keeps (get_or (inputs_of t.inputs a) i 0) (f.passed a i lt);
-      ready = f.ready; out = f.out;
+      ready = f.ready;
+      out = f.out;
       finished = omega (arith, count_by-set is_some t.ends job (Some last) None within, ap (λ x. one_if (is_some x)) open_end, f.finished, counts);
     } in
     subst P (sym is) made
@@ -133,7 +160,16 @@ Fits-note t job last ends finished f lt open_end ends_at is counts =
 -- the pile of the current job is empty
 pub Fits-emptied : (t : Tables) (job : ℕ) → Fits t job (length t.phases) → NoneOn t job → Fits t (length t.phases) (length t.phases)
 Fits-emptied t job f none = record {
-  small = f.small; for_inputs = f.for_inputs; for_ends = f.for_ends; for_passed = f.for_passed; for_places = f.for_places; in_range = f.in_range;
+  small = f.small;
+  for_inputs = f.for_inputs;
+  for_ends = f.for_ends;
+  for_passed = f.for_passed;
+  for_places = f.for_places;
+  in_range = f.in_range;
   stands = λ other lt ne. Stands-frame t t.phases t.ends t.passed t.places t.ready t.out t.finished job (length t.phases) other refl refl refl refl (λ input h. h) (λ input on _ o. ⊎_elim (λ (n : choice_at t.ends input ≡ None). inl n) (λ (e : input ≡ job). absurd (none other (on ∙ ap (λ x. Some x) e))) o) (f.stands other lt ne);
-  lasts = f.lasts; passed = f.passed; ready = f.ready; out = f.out; finished = f.finished;
+  lasts = f.lasts;
+  passed = f.passed;
+  ready = f.ready;
+  out = f.out;
+  finished = f.finished;
 }

@@ -30,9 +30,10 @@ no_result (Some r) h = absurd (h r refl)
 
 -- when a release has nothing to hand out
 pub release_cause : {R : Type 0} (phases : List Phase) (results : List (Option R)) (job : ℕ) (o : Option R) → ((k : ℕ) (r : R) → result_at results k ≡ Some r → phase_of phases k ≡ Done) → o ≡ result_at results job → ((o ≡ None) ↔ ((phase_of phases job ≢ Done) ⊎ (result_at results job ≡ None)))
-release_cause phases results job o only is =
-    (λ none. inr (sym is ∙ none),
-     λ cause. ⊎_elim (λ (isnt : phase_of phases job ≢ Done). is ∙ no_result (result_at results job) (λ r e. isnt (only job r e))) (λ (none : result_at results job ≡ None). is ∙ none) cause)
+release_cause phases results job o only is = (
+  λ none. inr (sym is ∙ none),
+  λ cause. ⊎_elim (λ (isnt : phase_of phases job ≢ Done). is ∙ no_result (result_at results job) (λ r e. isnt (only job r e))) (λ (none : result_at results job ≡ None). is ∙ none) cause,
+)
 
 -- the result that is found is that of the job's end
 pub result_found : {R : Type 0} (phases : List Phase) (results : List (Option R)) (job last : ℕ) (o : Option (Bor R)) → EndsAt phases job last → ((other : ℕ) → EndsAt phases job other → Some last ≡ Some other) → option_copied o ≡ result_at results last → MatchOption o ((other : ℕ) → EndsAt phases job other → result_at results other ≡ None) (λ found. (other : ℕ) × EndsAt phases job other × (result_at results other ≡ Some found.now))

@@ -195,13 +195,14 @@ Demanding-step t₀ t t' root job places phases' places' d on q w filed =
 -- where none is left to file, all that the walks lead to is awake
 pub Demanding-end : (t₀ t : Tables) (job : ℕ) → Demanding t₀ job t → NoneOn t (length t.phases + 2) → IsCalm t × Wakes t₀.inputs job t₀.phases t.phases
 Demanding-end t₀ t job d none =
-    let awake : (a input : ℕ) → phase_of t.phases a ≢ Asleep → Needs t.inputs a input → phase_of t.phases input ≢ Asleep = λ a input awake_a needs. ⊎_elim (λ (h : phase_of t.phases input ≢ Asleep). h) (λ (on : choice_at t.places a ≡ Some (length t.phases + 2)). absurd (none a on)) (d.awake a input awake_a needs) in
-    (record { fits = d.fits; none_ends = d.none_ends; none_woken = none; awake = awake },
-    record {
-      count = d.count;
-      each = λ other. ⊎_elim (λ (same : phase_of t.phases other ≡ phase_of t₀.phases other). inl same) (λ (more : Reaches t.inputs job other × (phase_of t₀.phases other ≡ Asleep) × (phase_of t.phases other ≡ Wanted)). inr (subst (λ x. Reaches x job other) d.inputs more.0, more.1, more.2)) (d.each other);
-      woken = λ other reaches. along t awake reaches.0 job other d.root (subst (λ x. Walk x reaches.0 job other) (sym d.inputs) reaches.1);
-    })
+    let awake : (a input : ℕ) → phase_of t.phases a ≢ Asleep → Needs t.inputs a input → phase_of t.phases input ≢ Asleep = λ a input awake_a needs. ⊎_elim (λ (h : phase_of t.phases input ≢ Asleep). h) (λ (on : choice_at t.places a ≡ Some (length t.phases + 2)). absurd (none a on)) (d.awake a input awake_a needs) in (
+      record { fits = d.fits; none_ends = d.none_ends; none_woken = none; awake = awake },
+      record {
+        count = d.count;
+        each = λ other. ⊎_elim (λ (same : phase_of t.phases other ≡ phase_of t₀.phases other). inl same) (λ (more : Reaches t.inputs job other × (phase_of t₀.phases other ≡ Asleep) × (phase_of t.phases other ≡ Wanted)). inr (subst (λ x. Reaches x job other) d.inputs more.0, more.1, more.2)) (d.each other);
+        woken = λ other reaches. along t awake reaches.0 job other d.root (subst (λ x. Walk x reaches.0 job other) (sym d.inputs) reaches.1);
+      },
+    )
   where
     along : (t : Tables) → ((a input : ℕ) → phase_of t.phases a ≢ Asleep → Needs t.inputs a input → phase_of t.phases input ≢ Asleep) → (steps a other : ℕ) → phase_of t.phases a ≢ Asleep → Walk t.inputs steps a other → phase_of t.phases other ≢ Asleep
     along t awake zero a other h e = subst (λ x. phase_of t.phases x ≢ Asleep) e h

@@ -19,9 +19,12 @@ not_none o y a b = absurd (cc)
 -- more inputs of a job were seen finished
 Fits-passed : (t : Tables) (current job from : ℕ) → Fits t current job → ((index : ℕ) → index < from → HasEnd t.ends (get_or (inputs_of t.inputs job) index 0)) → Fits (changed t t.phases t.ends (set t.passed job from) t.places t.ready t.out t.finished) current job
 Fits-passed t current job from f seen = record {
-  small = f.small; for_inputs = f.for_inputs; for_ends = f.for_ends;
+  small = f.small;
+  for_inputs = f.for_inputs;
+  for_ends = f.for_ends;
   for_passed = length-set t.passed job from ∙ f.for_passed;
-  for_places = f.for_places; in_range = f.in_range;
+  for_places = f.for_places;
+  in_range = f.in_range;
   stands = λ other lt ne. Stands-frame t t.phases t.ends (set t.passed job from) t.places t.ready t.out t.finished current current other refl refl refl refl (λ input h. h) (λ input _ _ o. o) (f.stands other lt ne);
   lasts = f.lasts;
   passed = λ a i lt.
@@ -38,7 +41,9 @@ Fits-passed t current job from f seen = record {
       (cases_lt job (length t.passed)))
       (λ (ne : job ≡ a → ⊥). f.passed a i (omega (arith, lt, get_or-set_other t.passed job a from 0 (λ e. ne (sym e)))))
       (cases_eq job a);
-  ready = f.ready; out = f.out; finished = f.finished;
+  ready = f.ready;
+  out = f.out;
+  finished = f.finished;
 }
 
 -- a wanted job in the hand that was filed stands where it belongs
@@ -54,9 +59,9 @@ Fits-file t t' current job f lt wanted open_end free filed =
     let held : Fits (changed t t.phases t.ends passed places ready t.out t.finished) current job = Fits-passed (changed t t.phases t.ends t.passed places ready t.out t.finished) current job filed.from placed seen in
     let on : choice_at places job ≡ Some filed.pile = get_or-set_same t.places job (Some filed.pile) None (omega (arith, lt, f.for_places)) in
     let here : Stands (changed t t.phases t.ends passed places ready t.out t.finished) current job = ⊎_elim
-      (λ (w : (filed.pile ≡ n) × (filed.from ≡ length row)). Is_ready wanted open_end (on ∙ ap (λ x. Some x) w.0) (λ input needs. let P : ℕ → Type 0 = λ x. HasEnd t.ends x in subst P (get_or_default row needs.0 0 input needs.1 ∙ needs.2) (seen needs.0 (omega (arith, needs.1, w.1)))))
-      (λ (w : Needs t.inputs job filed.pile × (choice_at t.ends filed.pile ≡ None)). Misses filed.pile wanted open_end on (f.in_range job filed.pile w.0) w.0 (inl w.1))
-      filed.where_to in
+    (λ (w : (filed.pile ≡ n) × (filed.from ≡ length row)). Is_ready wanted open_end (on ∙ ap (λ x. Some x) w.0) (λ input needs. let P : ℕ → Type 0 = λ x. HasEnd t.ends x in subst P (get_or_default row needs.0 0 input needs.1 ∙ needs.2) (seen needs.0 (omega (arith, needs.1, w.1)))))
+    (λ (w : Needs t.inputs job filed.pile × (choice_at t.ends filed.pile ≡ None)). Misses filed.pile wanted open_end on (f.in_range job filed.pile w.0) w.0 (inl w.1))
+    filed.where_to in
     let P : Tables → Type 0 = λ x. Fits x current (length x.phases) in
     subst P (sym filed.is) (Fits-drop (changed t t.phases t.ends passed places ready t.out t.finished) current job held here)
 

@@ -21,6 +21,7 @@ more_path inputs phases n job next path p leads lt = record { in_range = in_rang
     in_range' : (i : ℕ) → i < length (next ∷ (job ∷ path)) → get_or (next ∷ (job ∷ path)) i 0 < n
     in_range' zero h = lt
     in_range' (suc i) h = p.in_range i (omega (arith, h))
+
     linked' : (i j : ℕ) → i < j → j < length (next ∷ (job ∷ path)) → (steps : ℕ) × Chain inputs phases (suc steps) (get_or (next ∷ (job ∷ path)) j 0) (get_or (next ∷ (job ∷ path)) i 0)
     linked' zero zero h k = absurd (omega (arith, h))
     linked' zero (suc zero) h k = (0, (next, leads, refl))
@@ -46,6 +47,7 @@ everywhere inputs phases n P no_return step job lt = along inputs phases n P no_
     one : (i : ℕ) → i < length (job ∷ []) → get_or (job ∷ []) i 0 < n
     one zero h = lt
     one (suc i) h = absurd (omega (arith, h))
+
     none : (i j : ℕ) → i < j → j < length (job ∷ []) → (steps : ℕ) × Chain inputs phases (suc steps) (get_or (job ∷ []) j 0) (get_or (job ∷ []) i 0)
     none i j h k = absurd (omega (arith, h, k))
 

@@ -111,9 +111,11 @@ out_room t job calm on =
 -- what it takes that a job was filed
 pub Filed : (t : Tables) (job pile from : ℕ) (places : List (Option ℕ)) (ready : ℕ) → places ≡ set t.places job (Some pile) → ready ≡ t.ready + one_if (nat_eq pile (length t.phases)) → ((index : ℕ) → passed_of t.passed job ≤ index → index < from → HasEnd t.ends (get_or (inputs_of t.inputs job) index 0)) → ((pile ≡ length t.phases) × (from ≡ length (inputs_of t.inputs job))) ⊎ (Needs t.inputs job pile × (choice_at t.ends pile ≡ None)) → IsFiled t job (changed t t.phases t.ends (set t.passed job from) places ready t.out t.finished)
 Filed t job pile from places ready is_places is_ready seen where_to = record {
-  pile = pile; from = from;
+  pile = pile;
+  from = from;
   is = cc;
-  seen = seen; where_to = where_to;
+  seen = seen;
+  where_to = where_to;
 }
 
 -- a job that was handed out is put on the pile of jobs that end
@@ -128,9 +130,9 @@ Fits-ending t job phase phases places out calm is isnt kind is_phases is_out' is
     let placed : Fits t2 (length phases) job = Fits-place t1 (length phases) job (Some (n + 1)) places t.ready f (omega (arith, held.3, count)) is_places (omega (arith, ap (λ x. one_if (is_on (length phases) x)) held.2, ap one_if (is_on-other (length phases) (n + 1) (λ e. absurd (omega (arith, count, e)))))) in
     let on : choice_at places job ≡ Some (length phases + 1) = ap (λ xs. choice_at xs job) is_places ∙ get_or-set_same t.places job (Some (n + 1)) None (omega (arith, held.3, calm.fits.for_places)) ∙ ap (λ x. Some (x + 1)) (sym count) in
     let here : Stands t2 (length phases) job = ⊎_elim
-      (λ (d : phase ≡ Done). Ends (held.0 ∙ d) held.1 on)
-      (λ (w : (other : ℕ) × (phase ≡ Waits other) × (other < n) × HasEnd t.ends other). Passes_on w.0 (held.0 ∙ w.1) held.1 on (omega (arith, w.2, count)) w.3)
-      kind in
+    (λ (d : phase ≡ Done). Ends (held.0 ∙ d) held.1 on)
+    (λ (w : (other : ℕ) × (phase ≡ Waits other) × (other < n) × HasEnd t.ends other). Passes_on w.0 (held.0 ∙ w.1) held.1 on (omega (arith, w.2, count)) w.3)
+    kind in
     Fits-drop t2 (length phases) job placed here
 
 -- a job that was handed out waits on one that isn't finished
@@ -159,6 +161,8 @@ none_woken_ending t job pile places none is past other = subst (λ (xs : List (O
 -- the jobs are calm once all ends were passed on
 pub calm_settled : (t t' : Tables) (job : ℕ) (phase : Phase) (phases : List Phase) → IsCalm t → phase_of t.phases job ≡ Out → phase ≢ Asleep → phases ≡ set t.phases job phase → Fits t' (length t'.phases) (length t'.phases) → NoneOn t' (length t'.phases + 1) → NoneOn t' (length t'.phases + 2) → t'.inputs ≡ t.inputs → t'.phases ≡ phases → IsCalm t'
 calm_settled t t' job phase phases calm is awake is_phases fits none_ends none_woken same_inputs same = record {
-  fits = fits; none_ends = none_ends; none_woken = none_woken;
+  fits = fits;
+  none_ends = none_ends;
+  none_woken = none_woken;
   awake = subst (λ is. (a input : ℕ) → phase_of t'.phases a ≢ Asleep → Needs is a input → phase_of t'.phases input ≢ Asleep) (sym same_inputs) (subst (λ xs. (a input : ℕ) → phase_of xs a ≢ Asleep → Needs t.inputs a input → phase_of xs input ≢ Asleep) (sym (same ∙ is_phases)) (awake-set t.inputs t.phases job phase (λ e. absurd (cc)) awake calm.awake));
 }

@@ -28,6 +28,7 @@ Chain-join inputs phases (suc steps) more job middle last w v = subst (λ n. Cha
   where
     one : (next : ℕ) → LeadsTo inputs phases job next → Chain inputs phases (steps + more) next last → Chain inputs phases (suc (steps + more)) job last
     one next leads rest = (next, leads, rest)
+
     more_one : suc (steps + more) ≡ suc steps + more
     more_one = omega arith
 
@@ -106,10 +107,10 @@ no_return_forward inputs phases at to out none no_return job steps w =
     let awake : phase_of phases at ≢ Asleep = λ e. absurd (cc) in
     let rest = split_walk inputs phases at to out steps next job w.2 in
     let old : LeadsTo inputs phases job next → ⊥ = λ leads.
-        ⊎_elim
-        (λ (a : (n : ℕ) × Chain inputs phases n next job). no_return job a.0 (next, leads, a.1))
-        (λ (b : ((n : ℕ) × Chain inputs phases n next at) × ((n : ℕ) × Chain inputs phases n to job)). none (b.1.0 + suc b.0.0) (Chain-join inputs phases b.1.0 (suc b.0.0) to job at b.1.1 (next, leads, b.0.1)))
-        rest in
+    ⊎_elim
+    (λ (a : (n : ℕ) × Chain inputs phases n next job). no_return job a.0 (next, leads, a.1))
+    (λ (b : ((n : ℕ) × Chain inputs phases n next at) × ((n : ℕ) × Chain inputs phases n to job)). none (b.1.0 + suc b.0.0) (Chain-join inputs phases b.1.0 (suc b.0.0) to job at b.1.1 (next, leads, b.0.1)))
+    rest in
     ⊎_elim
     (λ (n : Needs inputs job next). old (inl n))
     (λ (f : phase_of (set phases at (Waits to)) job ≡ Waits next).

@@ -58,15 +58,16 @@ Passing-file t₀ t t' job other places p q wanted filed =
     let n = length t.phases in
     let phases : t'.phases ≡ t.phases = ap (λ x. x.phases) filed.is in
     let ends : t'.ends ≡ t.ends = ap (λ x. x.ends) filed.is in
-    let elsewhere : filed.pile ≡ job → ⊥ = λ e. ⊎_elim (λ (w : (filed.pile ≡ n) × (filed.from ≡ length (inputs_of t.inputs other))). absurd (omega (arith, p.is_job, w.0, e))) (λ (w : Needs t.inputs other filed.pile × (choice_at t.ends filed.pile ≡ None)). not_none (choice_at t.ends job) p.noted.0 (ap (λ x. choice_at t.ends x) (sym e) ∙ w.1) p.noted.1) filed.where_to in
-    (record {
-      fits = Fits-file t1 t' job other q.fits q.within wanted q.is_open q.free filed;
-      noted = (p.noted.0, ap (λ xs. choice_at xs job) ends ∙ p.noted.1);
-      none_woken = NoneOn-count t' (n + 2) (length t'.phases + 2) (omega (arith, ap length phases)) (NoneOn-file t1 t' other (n + 2) filed (λ input needs. q.fits.in_range other input needs) (omega arith) (subst (λ xs. (x : ℕ) → choice_at xs x ≢ Some (n + 2)) (sym q.places_is) (NoneOn-set t.places other None (n + 2) p.none_woken (λ e. absurd (cc)))));
-      moves = record { inputs = ap (λ x. x.inputs) filed.is ∙ p.moves.inputs; phases = phases ∙ p.moves.phases; ends = ends ∙ p.moves.ends; out = ap (λ x. x.out) filed.is ∙ p.moves.out; finished = ap (λ x. x.finished) filed.is ∙ p.moves.finished };
-      is_job = omega (arith, p.is_job, ap length phases);
-    },
-    omega (arith, q.fewer, ap (λ x. count_by (is_on job) x.places) filed.is, count_by-set (is_on job) places other (Some filed.pile) None (omega (arith, q.within, q.fits.for_places)), ap (λ x. one_if (is_on job x)) q.free, ap one_if (is_on-other job filed.pile elsewhere)))
+    let elsewhere : filed.pile ≡ job → ⊥ = λ e. ⊎_elim (λ (w : (filed.pile ≡ n) × (filed.from ≡ length (inputs_of t.inputs other))). absurd (omega (arith, p.is_job, w.0, e))) (λ (w : Needs t.inputs other filed.pile × (choice_at t.ends filed.pile ≡ None)). not_none (choice_at t.ends job) p.noted.0 (ap (λ x. choice_at t.ends x) (sym e) ∙ w.1) p.noted.1) filed.where_to in (
+      record {
+        fits = Fits-file t1 t' job other q.fits q.within wanted q.is_open q.free filed;
+        noted = (p.noted.0, ap (λ xs. choice_at xs job) ends ∙ p.noted.1);
+        none_woken = NoneOn-count t' (n + 2) (length t'.phases + 2) (omega (arith, ap length phases)) (NoneOn-file t1 t' other (n + 2) filed (λ input needs. q.fits.in_range other input needs) (omega arith) (subst (λ xs. (x : ℕ) → choice_at xs x ≢ Some (n + 2)) (sym q.places_is) (NoneOn-set t.places other None (n + 2) p.none_woken (λ e. absurd (cc)))));
+        moves = record { inputs = ap (λ x. x.inputs) filed.is ∙ p.moves.inputs; phases = phases ∙ p.moves.phases; ends = ends ∙ p.moves.ends; out = ap (λ x. x.out) filed.is ∙ p.moves.out; finished = ap (λ x. x.finished) filed.is ∙ p.moves.finished };
+        is_job = omega (arith, p.is_job, ap length phases);
+      },
+      omega (arith, q.fewer, ap (λ x. count_by (is_on job) x.places) filed.is, count_by-set (is_on job) places other (Some filed.pile) None (omega (arith, q.within, q.fits.for_places)), ap (λ x. one_if (is_on job x)) q.free, ap one_if (is_on-other job filed.pile elsewhere)),
+    )
 
 -- one that waits is put on the pile of jobs that end
 pub Passing-push : (t₀ t : Tables) (job other : ℕ) (places places' : List (Option ℕ)) → Passing t₀ job t → IsPassed t job other places → phase_of t.phases other ≢ Wanted → places' ≡ set places other (Some (length t.phases + 1)) → Passing t₀ job (changed t t.phases t.ends t.passed places' t.ready t.out t.finished) × (count_by (is_on job) places' < count_by (is_on job) t.places)
@@ -78,15 +79,16 @@ Passing-push t₀ t job other places places' p q isnt is =
     let within : other < length places = omega (arith, q.within, q.fits.for_places) in
     let on : choice_at places' other ≡ Some (n + 1) = ap (λ xs. choice_at xs other) is ∙ get_or-set_same places other (Some (n + 1)) None within in
     let held : Fits t2 job other = Fits-place t1 job other (Some (n + 1)) places' t.ready q.fits q.within is (omega (arith, ap (λ x. one_if (is_on n x)) q.free, ap one_if (is_on-other n (n + 1) (λ e. absurd (omega arith))))) in
-    let here : Stands t2 job other = Passes_on job waits q.is_open on p.is_job p.noted in
-    (record {
-      fits = Fits-drop t2 job other held here;
-      noted = p.noted;
-      none_woken = subst (λ xs. (x : ℕ) → choice_at xs x ≢ Some (n + 2)) (sym is) (NoneOn-set places other (Some (n + 1)) (n + 2) (subst (λ xs. (x : ℕ) → choice_at xs x ≢ Some (n + 2)) (sym q.places_is) (NoneOn-set t.places other None (n + 2) p.none_woken (λ e. absurd (cc)))) (λ e. let f : n + 1 ≡ n + 2 = cc in absurd (omega (arith, f))));
-      moves = record { inputs = p.moves.inputs; phases = p.moves.phases; ends = p.moves.ends; out = p.moves.out; finished = p.moves.finished };
-      is_job = p.is_job;
-    },
-    omega (arith, q.fewer, ap (λ xs. count_by (is_on job) xs) is, count_by-set (is_on job) places other (Some (n + 1)) None within, ap (λ x. one_if (is_on job x)) q.free, ap one_if (is_on-other job (n + 1) (λ e. absurd (omega (arith, p.is_job, e))))))
+    let here : Stands t2 job other = Passes_on job waits q.is_open on p.is_job p.noted in (
+      record {
+        fits = Fits-drop t2 job other held here;
+        noted = p.noted;
+        none_woken = subst (λ xs. (x : ℕ) → choice_at xs x ≢ Some (n + 2)) (sym is) (NoneOn-set places other (Some (n + 1)) (n + 2) (subst (λ xs. (x : ℕ) → choice_at xs x ≢ Some (n + 2)) (sym q.places_is) (NoneOn-set t.places other None (n + 2) p.none_woken (λ e. absurd (cc)))) (λ e. let f : n + 1 ≡ n + 2 = cc in absurd (omega (arith, f))));
+        moves = record { inputs = p.moves.inputs; phases = p.moves.phases; ends = p.moves.ends; out = p.moves.out; finished = p.moves.finished };
+        is_job = p.is_job;
+      },
+      omega (arith, q.fewer, ap (λ xs. count_by (is_on job) xs) is, count_by-set (is_on job) places other (Some (n + 1)) None within, ap (λ x. one_if (is_on job x)) q.free, ap one_if (is_on-other job (n + 1) (λ e. absurd (omega (arith, p.is_job, e))))),
+    )
 
 pub Passing-end : (t₀ t : Tables) (job : ℕ) (places : List (Option ℕ)) → Passing t₀ job t → places ≡ t.places → NoneOn t job → Fits (changed t t.phases t.ends t.passed places t.ready t.out t.finished) (length t.phases) (length t.phases)
 Passing-end t₀ t job places p is none = subst (λ xs. Fits (changed t t.phases t.ends t.passed xs t.ready t.out t.finished) (length t.phases) (length t.phases)) (sym is) (Fits-emptied t job p.fits none)

@@ -25,11 +25,12 @@ IsPile-frame : (place below : List (Option ℕ)) (pile : ℕ) (top : Option ℕ)
 IsPile-frame place below pile top [] job p b out is_pile = is_pile
 IsPile-frame place below pile top (first ∷ jobs) job p b out is_pile =
     let other : first ≡ job → ⊥ = λ e. out (inl e) in
-    let P : Option ℕ → Type 0 = λ t. IsPile (set place job p) (set below job b) pile t jobs in
-    (is_pile.0,
-     get_or-set_other place job first p None other ∙ is_pile.1,
-     is_pile.2,
-     subst P (sym (get_or-set_other below job first b None other)) (IsPile-frame place below pile (choice_at below first) jobs job p b (λ among. out (inr among)) is_pile.3))
+    let P : Option ℕ → Type 0 = λ t. IsPile (set place job p) (set below job b) pile t jobs in (
+      is_pile.0,
+      get_or-set_other place job first p None other ∙ is_pile.1,
+      is_pile.2,
+      subst P (sym (get_or-set_other below job first b None other)) (IsPile-frame place below pile (choice_at below first) jobs job p b (λ among. out (inr among)) is_pile.3),
+    )
 
 HasPile-frame : (place below : List (Option ℕ)) (pile : ℕ) (top : Option ℕ) (job : ℕ) (p b : Option ℕ) → choice_at place job ≢ Some pile → p ≢ Some pile → job < length place → HasPile place below pile top → HasPile (set place job p) (set below job b) pile top
 HasPile-frame place below pile top job p b off stays_off lt has = record {
@@ -50,11 +51,12 @@ HasPile-push place below pile top job off lt same has =
     let P : Option ℕ → Type 0 = λ t. IsPile (set place job (Some pile)) (set below job top) pile t has.jobs in
     record {
       jobs = job ∷ has.jobs;
-      is_pile =
-          (refl,
-           get_or-set_same place job (Some pile) None lt,
-           out,
-           subst P (sym (get_or-set_same below job top None (omega (arith, same, lt)))) (IsPile-frame place below pile top has.jobs job (Some pile) top out has.is_pile));
+      is_pile = (
+        refl,
+        get_or-set_same place job (Some pile) None lt,
+        out,
+        subst P (sym (get_or-set_same below job top None (omega (arith, same, lt)))) (IsPile-frame place below pile top has.jobs job (Some pile) top out has.is_pile),
+      );
       all = λ other is.
           ⊎_elim
           (λ (e : job ≡ other). inl e)

@@ -241,9 +241,10 @@ all_right {R} {C} m events t fit faithful =
       full = λ cell kept has. (let h = k.full_is cell kept has in (h.0, (fit.least cell).1 h.1));
       needed = λ job le awake. (let h = cell_of job le awake in (h.0, h.1, (fit.least h.0).1 h.2));
       exact = λ none_ready none_out asks cell.
-          let finished : (job : ℕ) → phase_of phases job ≢ Asleep → IsFinished phases job = all_finished m.inputs t.jobs (are_inputs m fit) st none_ready none_out in
-          (λ has. made k st' finished asks cell ((fit.least cell).0 has),
-           λ is_made. (fit.least cell).1 (used k cell cell_of is_made));
+          let finished : (job : ℕ) → phase_of phases job ≢ Asleep → IsFinished phases job = all_finished m.inputs t.jobs (are_inputs m fit) st none_ready none_out in (
+            λ has. made k st' finished asks cell ((fit.least cell).0 has),
+            λ is_made. (fit.least cell).1 (used k cell cell_of is_made),
+          );
     }
   where
     made : Keeps m t.jobs.phases t.jobs.results t.full → Stays m.inputs m.inputs t.jobs.phases → ((job : ℕ) → phase_of t.jobs.phases job ≢ Asleep → IsFinished t.jobs.phases job) → ((ask : ℕ) → ask < m.asks → phase_of t.jobs.phases ask ≢ Asleep) → (cell : C) → IsUsed m cell → IsMade m t cell
@@ -257,6 +258,7 @@ all_right {R} {C} m events t fit faithful =
         by_kind k st finished cell user lt (Some job) e =
             let awake = next_awake m t.jobs.phases t.jobs.results t.full k st user.job job (finished user.job user.awake) user.awake (fit.only_used user.job job cell lt user.uses e) in
             inr (job, e, finished job awake)
+
     used : Keeps m t.jobs.phases t.jobs.results t.full → (cell : C) → ((job : ℕ) → m.asks ≤ job → phase_of t.jobs.phases job ≢ Asleep → (cell : C) × (m.job_of cell ≡ Some job) × IsUsed m cell) → IsMade m t cell → IsUsed m cell
     used k cell cell_of is_made =
         ⊎_elim

@@ -16,10 +16,13 @@ WakesRow-none phases places = record { count = refl; count_places = refl; each =
 -- nothing changes at a job of the row that isn't asleep
 WakesRow-awake : (row : List ℕ) (phases : List Phase) (places : List (Option ℕ)) (phases' : List Phase) (places' : List (Option ℕ)) (job : ℕ) → WakesRow row phases places phases' places' → phase_of phases' job ≢ Asleep → WakesRow (row ++ job ∷ []) phases places phases' places'
 WakesRow-awake row phases places phases' places' job w awake = record {
-  count = w.count; count_places = w.count_places;
+  count = w.count;
+  count_places = w.count_places;
   each = λ other. ⊎_elim (λ (same : (phase_of phases' other ≡ phase_of phases other) × (choice_at places' other ≡ choice_at places other)). inl same) (λ (more : Contains row other × (phase_of phases other ≡ Asleep) × (phase_of phases' other ≡ Wanted) × (choice_at places' other ≡ Some (length phases + 2))). inr (Contains-append_left row (job ∷ []) other more.0, more.1, more.2, more.3)) (w.each other);
   woken = λ other has. ⊎_elim (λ (early : Contains row other). w.woken other early) (λ (e : job ≡ other). subst (λ x. phase_of phases' x ≢ Asleep) e awake) (Contains-push_cases row job other has);
-  ready = w.ready; out = w.out; left = w.left;
+  ready = w.ready;
+  out = w.out;
+  left = w.left;
 }
 
 -- a job of the row that is asleep is woken

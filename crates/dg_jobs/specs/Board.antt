@@ -49,8 +49,9 @@ IsOpen ends current job = (choice_at ends job ≡ None) ⊎ (job ≡ current)
 abbrev pub HasEnd : List (Option ℕ) → ℕ → Type 0
 HasEnd ends job = (last : ℕ) × (choice_at ends job ≡ Some last)
 
--- where a job may stand: on the pile of ready jobs, of a job that it misses, of jobs that end, of jobs that
--- were woken, or on none. The first three of these piles have the numbers that follow those of the jobs
+-- where a job may stand: on the pile of ready jobs, of a job that it misses, of jobs that end, of
+-- jobs that were woken, or on none. The first three of these piles have the numbers that follow
+-- those of the jobs
 pub data Stands (t : Tables) (current job : ℕ) : Type 0 where
   Sleeps : phase_of t.phases job ≡ Asleep → choice_at t.ends job ≡ None → choice_at t.places job ≡ None → Stands t current job
   Is_out : phase_of t.phases job ≡ Out → choice_at t.ends job ≡ None → choice_at t.places job ≡ None → Stands t current job
@@ -106,7 +107,8 @@ pub record IsFiled (old : Tables) (job : ℕ) (new : Tables) : Type 0 where
   pub seen : (index : ℕ) → passed_of old.passed job ≤ index → index < from → HasEnd old.ends (slice_index_or (inputs_of old.inputs job) index 0)
   pub where_to : ((pile ≡ length old.phases) × (from ≡ length (inputs_of old.inputs job))) ⊎ (Needs old.inputs job pile × (choice_at old.ends pile ≡ None))
 
--- of this row, the jobs that were asleep were woken and put on the pile of woken jobs, and nothing else changed
+-- of this row, the jobs that were asleep were woken and put on the pile of woken jobs, and nothing
+-- else changed
 pub record WakesRow (row : List ℕ) (phases : List Phase) (places : List (Option ℕ)) (phases' : List Phase) (places' : List (Option ℕ)) : Type 0 where
   pub count : length phases' ≡ length phases
   pub count_places : length places' ≡ length places

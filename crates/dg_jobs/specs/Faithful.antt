@@ -13,18 +13,20 @@ abbrev pub MeaningWalk : {R C : Type 0} → Meanings R C → ℕ → ℕ → ℕ
 MeaningWalk m zero job other = job ≡ other
 MeaningWalk m (suc steps) job other = (next : ℕ) × GoesOn m job next × MeaningWalk m steps next other
 
--- an ask uses the cell directly, or the job of a producer cell does to which so many such steps lead
+-- an ask uses the cell directly, or the job of a producer cell does to which so many such steps
+-- lead
 abbrev pub UsedAfter : {R C : Type 0} → Meanings R C → ℕ → C → Type 0
 UsedAfter m zero cell = (ask : ℕ) × (ask < m.asks) × Contains (m.uses ask) cell
 UsedAfter {R} {C} m (suc steps) cell = (from : C) × (job : ℕ) × UsedAfter m steps from × (m.job_of from ≡ Some job) × Contains (m.uses job) cell
 
--- the cell is in the least set that has what asks use directly, and what the jobs of its producer cells do
+-- the cell is in the least set that has what asks use directly, and what the jobs of its producer
+-- cells do
 abbrev pub IsUsed : {R C : Type 0} → Meanings R C → C → Type 0
 IsUsed m cell = (steps : ℕ) × UsedAfter m steps cell
 
--- the jobs and cells are those of one document: no walk of inputs and ends returns; the producer cells that a job
--- uses directly are those of its inputs and the one in whose content it ends, whose meaning it then has; and the
--- cells of the document are those that are used
+-- the jobs and cells are those of one document: no walk of inputs and ends returns; the producer
+-- cells that a job uses directly are those of its inputs and the one in whose content it ends,
+-- whose meaning it then has; and the cells of the document are those that are used
 pub record FitTogether {R C : Type 0} (m : Meanings R C) : Type 0 where
   pub asks : m.asks ≤ length m.inputs
   pub in_range : (job other : ℕ) → Needs m.inputs job other → other < length m.inputs
@@ -62,8 +64,8 @@ Faithful m events t = FaithfulFrom m (start m) events t
 abbrev pub IsMade : {R C : Type 0} → Meanings R C → State R C → C → Type 0
 IsMade m t cell = IsFull t.full cell ⊎ ((job : ℕ) × (m.job_of cell ≡ Some job) × IsFinished t.jobs.phases job)
 
--- finished jobs have the results that they mean, full cells hold what they mean, only cells of the document are
--- made, and all are once nothing is left to do
+-- finished jobs have the results that they mean, full cells hold what they mean, only cells of the
+-- document are made, and all are once nothing is left to do
 pub record AreRight {R C : Type 0} (m : Meanings R C) (t : State R C) : Type 0 where
   pub results : (job last : ℕ) → EndsAt t.jobs.phases job last → result_at t.jobs.results last ≡ Some (m.meaning job)
   pub contents : (job last : ℕ) (cell : C) → m.job_of cell ≡ Some job → EndsAt t.jobs.phases job last → result_at t.jobs.results last ≡ Some (m.content cell)

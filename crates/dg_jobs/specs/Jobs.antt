@@ -2,7 +2,8 @@ use Rattle.std.specs.Prelude.{◌≡◌, ◌≢◌, ◌<◌, ◌≤◌, ◌⊎�
 use Rattle.dg_jobs.specs.declared.phase.Phase.{Phase}
 use Rattle.dg_jobs.specs.declared.phase.Phase.TheVariants.{Asleep, Wanted, Out, Waits, Done}
 
--- jobs, numbered from 0: the jobs that each one needs, where each one is in its life, and the results that are kept
+-- jobs, numbered from 0: the jobs that each one needs, where each one is in its life, and the
+-- results that are kept
 pub record Jobs (R : Type 0) : Type 0 where
   pub inputs : List (List ℕ)
   pub phases : List Phase

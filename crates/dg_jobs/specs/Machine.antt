@@ -12,8 +12,9 @@ pub data Event (R C : Type 0) : Type 0 where
   PutBack : ℕ → Event R C
   Fill : C → Event R C
 
--- jobs with what they mean. The jobs below `asks` are asks; each other job makes the content of one cell, its
--- producer cell. A job uses a cell directly where it comes to the cell through no producer cell
+-- jobs with what they mean. The jobs below `asks` are asks; each other job makes the content of one
+-- cell, its producer cell. A job uses a cell directly where it comes to the cell through no
+-- producer cell
 pub record Meanings (R C : Type 0) : Type 0 where
   pub inputs : List (List ℕ)
   pub asks : ℕ

@@ -10,10 +10,11 @@ use std::alloc::Global;
 
 /// Where each job is in its life, without the results.
 ///
-/// A job that is wanted lies on the pile of the first of its inputs that isn't finished, or on the pile of
-/// ready jobs. A job that waits on another lies on that one's pile. So each end of a job turns to the jobs on
-/// its pile alone. There are three piles that are no job's: of ready jobs, of jobs whose end is to be passed
-/// on, and of jobs that were just woken. The last two are empty between two calls.
+/// A job that is wanted lies on the pile of the first of its inputs that isn't finished, or on the
+/// pile of ready jobs. A job that waits on another lies on that one's pile. So each end of a job
+/// turns to the jobs on its pile alone. There are three piles that are no job's: of ready jobs, of
+/// jobs whose end is to be passed on, and of jobs that were just woken. The last two are empty
+/// between two calls.
 #[derive(Drop)]
 pub(crate) struct Board {
     /// For each job, the jobs that it needs.
@@ -33,7 +34,8 @@ impl Board {
     /// All jobs are asleep.
     pub(crate) fn new(alloc: Global, inputs: Vec<Vec<u32>>) -> Result<Board, NoMemory>
         requires small { vec_len inputs < 2 ^ 32 }
-        requires in_range { All (λ row. All (λ input. input < vec_len inputs) row.items) inputs.items }
+        requires in_range { All (λ row. All (λ input. input < vec_len inputs) row.items)
+            inputs.items }
         ensures calm { IfOk result (λ board. IsCalm (tables board)) }
         ensures inputs { IfOk result (λ board. board.inputs ≡ inputs) }
         ensures phases { IfOk result (λ board. board.phases.items
@@ -82,12 +84,17 @@ impl Board {
         requires job { job < vec_len self.old.inputs }
         ensures calm { IsCalm (tables self.new) }
         ensures inputs { (tables self.new).inputs ≡ (tables self.old).inputs }
-        ensures phases { Wakes (tables self.old).inputs job self.old.phases.items self.new.phases.items }
+        ensures phases { Wakes (tables self.old).inputs job self.old.phases.items
+            self.new.phases.items }
     {
         let woken = self.phases.len() + 2;
         wake(&mut self.phases, &mut self.piles, job);
         while let Some(job) = self.piles.pop(woken) {
-            wake_all(&mut self.phases, &mut self.piles, self.inputs[job as usize].as_slice());
+            wake_all(
+                &mut self.phases,
+                &mut self.piles,
+                self.inputs[job as usize].as_slice(),
+            );
             self.file(job);
         }
     }
@@ -99,9 +106,9 @@ impl Board {
         ensures inputs { (tables self.new).inputs ≡ (tables self.old).inputs }
         ensures cases { MatchOption result
             ((self.new.phases.items ≡ self.old.phases.items)
-                × ((job : ℕ) → IsReady (tables self.old).inputs self.old.phases.items job → ⊥))
+            × ((job : ℕ) → IsReady (tables self.old).inputs self.old.phases.items job → ⊥))
             (λ job. IsReady (tables self.old).inputs self.old.phases.items job
-                × (self.new.phases.items ≡ slice_set self.old.phases.items job Phase.Out)) }
+            × (self.new.phases.items ≡ slice_set self.old.phases.items job Phase.Out)) }
     {
         let Some(job) = self.piles.pop(self.phases.len()) else {
             return None;
@@ -168,14 +175,20 @@ impl Board {
             (EndsAt self.now.phases.items job) }
         ensures only { (last : ℕ) → EndsAt self.now.phases.items job last → result ≡ Some last }
     {
-        if (job as usize) < self.ends.len() { self.ends[job as usize] } else { None }
+        if (job as usize) < self.ends.len() {
+            self.ends[job as usize]
+        } else {
+            None
+        }
     }
 
     /// Notes the ends that are to be passed on, and passes them on.
     fn settle(&mut self)
-        requires fits { Fits (tables self.old) (length self.old.phases.items) (length self.old.phases.items) }
+        requires fits { Fits (tables self.old) (length self.old.phases.items)
+            (length self.old.phases.items) }
         requires none_woken { NoneOn (tables self.old) (length self.old.phases.items + 2) }
-        ensures fits { Fits (tables self.new) (length self.new.phases.items) (length self.new.phases.items) }
+        ensures fits { Fits (tables self.new) (length self.new.phases.items)
+            (length self.new.phases.items) }
         ensures none_ends { NoneOn (tables self.new) (length self.new.phases.items + 1) }
         ensures none_woken { NoneOn (tables self.new) (length self.new.phases.items + 2) }
         ensures inputs { (tables self.new).inputs ≡ (tables self.old).inputs }
@@ -209,7 +222,8 @@ impl Board {
         requires fits { Fits (tables self.old) job (length self.old.phases.items) }
         requires noted { HasEnd self.old.ends.items job }
         requires none_woken { NoneOn (tables self.old) (length self.old.phases.items + 2) }
-        ensures fits { Fits (tables self.new) (length self.new.phases.items) (length self.new.phases.items) }
+        ensures fits { Fits (tables self.new) (length self.new.phases.items)
+            (length self.new.phases.items) }
         ensures none_woken { NoneOn (tables self.new) (length self.new.phases.items + 2) }
         ensures moves { MovesPiles (tables self.old) (tables self.new) }
     {
@@ -222,11 +236,13 @@ impl Board {
     }
 }
 
-/// The first place from `from` on where the row has a job whose end isn't noted, or the row's length.
+/// The first place from `from` on where the row has a job whose end isn't noted, or the row's
+/// length.
 fn next_missing(row: &[u32], ends: &[Option<u32>], from: usize) -> usize
     requires { All (λ job. job < length ends.now) row.now }
     ensures bound { result ≤ length row.now }
-    ensures open { result < length row.now → choice_at ends.now (slice_index row.now result) ≡ None }
+    ensures open { result < length row.now
+        → choice_at ends.now (slice_index row.now result) ≡ None }
     ensures before { (index : ℕ) → from ≤ index → index < result
         → HasEnd ends.now (slice_index row.now index) }
 {
@@ -244,10 +260,10 @@ fn wake(phases: &mut Vec<Phase>, piles: &mut Piles, job: u32)
     requires same { length piles.old ≡ vec_len phases.old }
     requires free { phase_of phases.old.items job ≡ Phase.Asleep → choice_at piles.old job ≡ None }
     ensures cases { ((phase_of phases.old.items job ≢ Phase.Asleep)
-            × (phases.new.items ≡ phases.old.items) × (piles.new ≡ piles.old))
+        × (phases.new.items ≡ phases.old.items) × (piles.new ≡ piles.old))
         ⊎ ((phase_of phases.old.items job ≡ Phase.Asleep)
-            × (phases.new.items ≡ slice_set phases.old.items job Phase.Wanted)
-            × (piles.new ≡ slice_set piles.old job (Some (length phases.old.items + 2)))) }
+        × (phases.new.items ≡ slice_set phases.old.items job Phase.Wanted)
+        × (piles.new ≡ slice_set piles.old job (Some (length phases.old.items + 2)))) }
 {
     if phases[job as usize] == Phase::Asleep {
         phases[job as usize] = Phase::Wanted;
@@ -259,7 +275,8 @@ fn wake(phases: &mut Vec<Phase>, piles: &mut Piles, job: u32)
 fn wake_all(phases: &mut Vec<Phase>, piles: &mut Piles, row: &[u32])
     requires row { All (λ job. job < vec_len phases.old) row.now }
     requires same { length piles.old ≡ vec_len phases.old }
-    requires free { (job : ℕ) → phase_of phases.old.items job ≡ Phase.Asleep → choice_at piles.old job ≡ None }
+    requires free { (job : ℕ) → phase_of phases.old.items job ≡ Phase.Asleep
+        → choice_at piles.old job ≡ None }
     ensures exact { WakesRow row.now phases.old.items piles.old phases.new.items piles.new }
 {
     for &job in row {

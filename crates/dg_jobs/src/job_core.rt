@@ -11,10 +11,11 @@ use std::marker::Model;
 
 /// Jobs that need one another's results, each handed out once all that it needs is finished.
 ///
-/// A job is asleep until it is demanded, by itself or because a job that needs it is. It is then wanted, and
-/// ready once each of its inputs is finished. `take` hands a ready job out, and `finish` or `put_back` takes
-/// it back. Each of these calls, but for `new`, takes no memory. Over the whole life of a core, `demand`,
-/// `take`, `finish` and `put_back` together take time in proportion to their number and to the jobs and inputs.
+/// A job is asleep until it is demanded, by itself or because a job that needs it is. It is then
+/// wanted, and ready once each of its inputs is finished. `take` hands a ready job out, and
+/// `finish` or `put_back` takes it back. Each of these calls, but for `new`, takes no memory. Over
+/// the whole life of a core, `demand`, `take`, `finish` and `put_back` together take time in
+/// proportion to their number and to the jobs and inputs.
 #[derive(Drop)]
 pub struct JobCore<R: Drop> {
     board: Board,
@@ -36,14 +37,17 @@ impl<R: Drop> Model for JobCore<R> {
 impl<R: Drop> JobCore<R> {
     /// The jobs are numbered from 0, and job k needs those in `inputs[k]`. All are asleep.
     ///
-    /// A job whose walk of inputs leads back to it never becomes ready; the other jobs aren't hindered.
+    /// A job whose walk of inputs leads back to it never becomes ready; the other jobs aren't
+    /// hindered.
     pub fn new(alloc: Global, inputs: Vec<Vec<u32>>) -> Result<JobCore<R>, NoMemory>
         requires small { vec_len inputs < 2 ^ 32 }
-        requires in_range { All (λ row. All (λ input. input < vec_len inputs) row.items) inputs.items }
+        requires in_range { All (λ row. All (λ input. input < vec_len inputs) row.items)
+            inputs.items }
         ensures exact { IfOk result (λ core. core ≡ record {
-            inputs = map (λ row. row.items) inputs.items;
-            phases = replicate (vec_len inputs) Phase.Asleep;
-            results = replicate (vec_len inputs) None }) }
+          inputs = map (λ row. row.items) inputs.items;
+          phases = replicate (vec_len inputs) Phase.Asleep;
+          results = replicate (vec_len inputs) None;
+        }) }
     {
         let count = inputs.len();
         Ok(JobCore {
@@ -76,9 +80,11 @@ impl<R: Drop> JobCore<R> {
         Next::Ended
     }
 
-    /// Ends a job that is handed out: with a result, or with that of another job, which this demands.
+    /// Ends a job that is handed out: with a result, or with that of another job, which this
+    /// demands.
     ///
-    /// A job that is forwarded along a walk of inputs and forwards that leads back to it never ends.
+    /// A job that is forwarded along a walk of inputs and forwards that leads back to it never
+    /// ends.
     pub fn finish(&mut self, job: u32, end: JobEnd<R>)
         requires out { IsOut self.old.phases job }
         requires end { IsEnd self.old end }
@@ -102,9 +108,9 @@ impl<R: Drop> JobCore<R> {
         self.board.put_back(job);
     }
 
-    /// Hands out the result of a job that is done, which stays finished. A job that was forwarded has no result
-    /// of its own. The jobs that need this job, or wait on it, find no result from then on: the caller sees to
-    /// it that they are finished, and that none asks for it.
+    /// Hands out the result of a job that is done, which stays finished. A job that was forwarded
+    /// has no result of its own. The jobs that need this job, or wait on it, find no result from
+    /// then on: the caller sees to it that they are finished, and that none asks for it.
     pub fn release(&mut self, job: u32) -> Option<R>
         requires { job < length self.old.inputs }
         ensures exact { result ≡ result_at self.old.results job }
@@ -115,13 +121,13 @@ impl<R: Drop> JobCore<R> {
         self.results[job as usize].take()
     }
 
-    /// The result of a finished job: its own, or that of the job at the end of its forwards. There is none
-    /// where the job isn't finished, or that result was released.
+    /// The result of a finished job: its own, or that of the job at the end of its forwards. There
+    /// is none where the job isn't finished, or that result was released.
     pub fn result(&self, job: u32) -> Option<&R>
         ensures exact { MatchOption result
             ((last : ℕ) → EndsAt self.now.phases job last → result_at self.now.results last ≡ None)
             (λ found. (last : ℕ) × EndsAt self.now.phases job last
-                × (result_at self.now.results last ≡ Some found.now)) }
+            × (result_at self.now.results last ≡ Some found.now)) }
     {
         let last = self.board.end_of(job)?;
         self.results[last as usize].as_ref()
@@ -138,7 +144,8 @@ impl<R: Drop> JobCore<R> {
         }
     }
 
-    /// The least job that is handed out. It takes time in proportion to the jobs where there is one.
+    /// The least job that is handed out. It takes time in proportion to the jobs where there is
+    /// one.
     pub fn first_out(&self) -> Option<u32>
         ensures exact { MatchOption result (NoneOut self.now) (IsFirstOut self.now.phases) }
     {
@@ -173,7 +180,8 @@ fn nothings<R: Drop>(alloc: Global, count: usize) -> Result<Vec<Option<R>>, NoMe
 /// The least job that is handed out.
 fn first_out(phases: &[Phase]) -> Option<u32>
     requires { length phases.now < 2 ^ 32 }
-    ensures exact { MatchOption result ((job : ℕ) → IsOut phases.now job → ⊥) (IsFirstOut phases.now) }
+    ensures exact { MatchOption result ((job : ℕ) → IsOut phases.now job → ⊥)
+        (IsFirstOut phases.now) }
 {
     for job in 0..phases.len() {
         if let Phase::Out = phases[job] {

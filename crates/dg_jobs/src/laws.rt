@@ -11,27 +11,24 @@ use crate::phase::Phase;
 pub fn taken_once<R, C>()
     ensures { (m : Meanings R C) (events : List (Event R C)) (t : State R C) → Legal m events t
         → (job : ℕ) → takes_of events job ≤ put_backs_of events job + 1 }
-{
-}
+{}
 
 /// A law: where no job is ready and none is handed out, every job that isn't asleep is finished.
 pub fn nothing_hangs<R, C>()
     ensures { (m : Meanings R C) (events : List (Event R C)) (t : State R C) → AreInputs m.inputs
         → Legal m events t → NoneReady t.jobs → NoneOut t.jobs
         → (job : ℕ) → phase_of t.jobs.phases job ≢ Phase.Asleep → IsFinished t.jobs.phases job }
-{
-}
+{}
 
-/// A law: where events are faithful to what jobs mean, finished jobs have the results that they mean, full cells
-/// hold what they mean, and what is made is what is used.
+/// A law: where events are faithful to what jobs mean, finished jobs have the results that they
+/// mean, full cells hold what they mean, and what is made is what is used.
 pub fn faithful_runs<R, C>()
     ensures { (m : Meanings R C) (events : List (Event R C)) (t : State R C) → FitTogether m
         → Faithful m events t → AreRight m t }
-{
-}
+{}
 
-/// A law: what `faithful_runs` rests on is kept by each event. What is said of the phases alone is kept by each
-/// event that may come, and what is said of meanings by each that is faithful besides.
+/// A law: what `faithful_runs` rests on is kept by each event. What is said of the phases alone is
+/// kept by each event that may come, and what is said of meanings by each that is faithful besides.
 pub fn invariant_is_kept<R, C>()
     ensures phases { (m : Meanings R C) (s t : State R C) (event : Event R C) → MayCome m s event
         → Comes m s event t → Stays m.inputs s.jobs.inputs s.jobs.phases
@@ -43,5 +40,4 @@ pub fn invariant_is_kept<R, C>()
         → MayCome m s event → IsFaithful m s event → Comes m s event t
         → Stays m.inputs s.jobs.inputs s.jobs.phases → Keeps m s.jobs.phases s.jobs.results s.full
         → Keeps m t.jobs.phases t.jobs.results t.full }
-{
-}
+{}

@@ -1,4 +1,5 @@
-//! Jobs that need one another's results: which are ready, which are handed out, and which are finished.
+//! Jobs that need one another's results: which are ready, which are handed out, and which are
+//! finished.
 #![tactic(auto)]
 
 mod board;

@@ -5,8 +5,8 @@ use crate::memory::NoMemory;
 use std::alloc::Global;
 use std::marker::Model;
 
-/// Piles of jobs, each job on one pile at most. Contracts see, for each job, the pile that it is on.
-/// Each job may have a pile of its own, and there are three more.
+/// Piles of jobs, each job on one pile at most. Contracts see, for each job, the pile that it is
+/// on. Each job may have a pile of its own, and there are three more.
 #[derive(Drop)]
 pub(crate) struct Piles {
     /// For each job, the pile that it is on.
@@ -60,7 +60,7 @@ impl Piles {
         ensures exact { MatchOption result
             ((self.new ≡ self.old) × ((job : ℕ) → choice_at self.old job ≢ Some pile))
             (λ job. (choice_at self.old job ≡ Some pile)
-                × (self.new ≡ slice_set self.old job None)) }
+            × (self.new ≡ slice_set self.old job None)) }
     {
         let Some(job) = self.top[pile] else {
             return None;

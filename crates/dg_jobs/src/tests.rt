@@ -146,7 +146,13 @@ fn check_state(rt: &impl Abort, core: &JobCore<u64>, name: &str, step: &Step) {
 fn scripts(rt: HostRuntime) -> Result<(), Fail> {
     use Step::*;
     let alloc = rt.alloc();
-    play(&rt, alloc, "no job", &[], &[Ended, Counts(0, 0, 0), FirstOut(None), Result(0, None)])?;
+    play(
+        &rt,
+        alloc,
+        "no job",
+        &[],
+        &[Ended, Counts(0, 0, 0), FirstOut(None), Result(0, None)],
+    )?;
     play(
         &rt,
         alloc,
@@ -267,7 +273,17 @@ fn scripts(rt: HostRuntime) -> Result<(), Fail> {
         alloc,
         "a demand after the input is finished",
         &[&[1], &[]],
-        &[Demand(1), Take(1), Done(1, 3), Ended, Demand(0), Take(0), Done(0, 2), Demand(0), Ended],
+        &[
+            Demand(1),
+            Take(1),
+            Done(1, 3),
+            Ended,
+            Demand(0),
+            Take(0),
+            Done(0, 2),
+            Demand(0),
+            Ended,
+        ],
     )?;
     play(
         &rt,

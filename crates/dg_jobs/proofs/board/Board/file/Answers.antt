@@ -23,10 +23,10 @@ returns-then-passed-row c =
     let ends : c.deref.result.now ≡ t.ends = c.deref.ensures.value in
     record {
       exact = Filed t job pile from c.push.new.self t.ready
-        (c.push.ensures.exact ∙ ap (λ xs. set t.places job (Some (get_or xs from 0))) row)
-        (omega (arith, ap one_if (ne_eqb pile (length t.phases) (λ e. absurd (omega (arith, in_range, e))))))
-        (λ index late early. subst (λ xs. HasEnd t.ends (get_or xs index 0)) row (subst (λ es. HasEnd es (get_or c.as_slice-row.result.now index 0)) ends (c.next_missing-passed.ensures.before index (omega (arith, late, read)) early)))
-        (inr (needs, subst (λ xs. choice_at t.ends (get_or xs from 0) ≡ None) row (subst (λ es. choice_at es (get_or c.as_slice-row.result.now from 0) ≡ None) ends (c.next_missing-passed.ensures.«open» c.if-passed-row.true))))
+          (c.push.ensures.exact ∙ ap (λ xs. set t.places job (Some (get_or xs from 0))) row)
+          (omega (arith, ap one_if (ne_eqb pile (length t.phases) (λ e. absurd (omega (arith, in_range, e))))))
+          (λ index late early. subst (λ xs. HasEnd t.ends (get_or xs index 0)) row (subst (λ es. HasEnd es (get_or c.as_slice-row.result.now index 0)) ends (c.next_missing-passed.ensures.before index (omega (arith, late, read)) early)))
+          (inr (needs, subst (λ xs. choice_at t.ends (get_or xs from 0) ≡ None) row (subst (λ es. choice_at es (get_or c.as_slice-row.result.now from 0) ≡ None) ends (c.next_missing-passed.ensures.«open» c.if-passed-row.true))));
     }
 
 pub returns-else-passed-row : goal.returns-else-passed-row
@@ -41,8 +41,8 @@ returns-else-passed-row c =
     let all : from ≡ length (inputs_of t.inputs job) = omega (arith, c.if-passed-row.false, c.next_missing-passed.ensures.bound, ap length row) in
     record {
       exact = Filed t job c.len.result from c.push-else-passed-row.new.self (t.ready + 1)
-        c.push-else-passed-row.ensures.exact
-        (omega (arith, ap one_if (eq-eqb c.len.result (length t.phases) pile)))
-        (λ index late early. subst (λ xs. HasEnd t.ends (get_or xs index 0)) row (subst (λ es. HasEnd es (get_or c.as_slice-row.result.now index 0)) ends (c.next_missing-passed.ensures.before index (omega (arith, late, read)) early)))
-        (inl (pile, all))
+          c.push-else-passed-row.ensures.exact
+          (omega (arith, ap one_if (eq-eqb c.len.result (length t.phases) pile)))
+          (λ index late early. subst (λ xs. HasEnd t.ends (get_or xs index 0)) row (subst (λ es. HasEnd es (get_or c.as_slice-row.result.now index 0)) ends (c.next_missing-passed.ensures.before index (omega (arith, late, read)) early)))
+          (inl (pile, all));
     }
