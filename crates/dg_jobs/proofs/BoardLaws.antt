@@ -1,12 +1,12 @@
-use Rattle.std.proofs.Common.{◌≡◌, ◌≢◌, ◌+◌, ◌-◌, ◌^◌, ◌<◌, ◌≤◌, ◌⊎◌, ℕ, zero, suc, Bool, true, false, Option, Some, None, List, length, get_or, set, count_by, nat_eq, is_some, Contains, refl, sym, ap, ◌∙◌, subst, inl, inr, ⊎_elim, arith}
-use Rattle.std.proofs.lemmas.Bool.{cases_eq, cases_lt, eq-eqb, ne_eqb}
-use Rattle.std.proofs.lemmas.List.{get_or_past, get_or_default, get_or-set_same, get_or-set_other, length-set}
+use Rattle.std.proofs.Common.{◌≡◌, ◌≢◌, ◌+◌, ◌<◌, ℕ, zero, suc, Option, Some, None, List, length, get_or, set, count_by, nat_eq, is_some, refl, sym, ap, ◌∙◌, subst, inl, inr, ⊎_elim, arith}
+use Rattle.std.proofs.lemmas.Bool.{cases_eq, cases_lt}
+use Rattle.std.proofs.lemmas.List.{get_or_past, get_or-set_same, get_or-set_other, length-set}
 use Rattle.dg_jobs.specs.declared.phase.Phase.{Phase}
-use Rattle.dg_jobs.specs.declared.phase.Phase.TheVariants.{Asleep, Wanted, Out, Waits, Done}
-use Rattle.dg_jobs.specs.Board.{Tables, Stands, Sleeps, Is_out, Is_ready, Misses, Woken, Awaits, Passes_on, Ends, Ended, Passed_on, Fits, HasEnd, IsCalm, IsFiled, IsOpen, NoneOn, WakesRow, end_by, is_on, is_out, one_if, passed_of}
-use Rattle.dg_jobs.specs.Jobs.{inputs_of, phase_of, EndsAt, Follows, IsFinished, IsReady, Needs}
+use Rattle.dg_jobs.specs.declared.phase.Phase.TheVariants.{Asleep, Waits, Done}
+use Rattle.dg_jobs.specs.Board.{Tables, Stands, Sleeps, Is_out, Is_ready, Misses, Woken, Awaits, Passes_on, Ends, Ended, Passed_on, Fits, HasEnd, IsOpen, NoneOn, is_on, is_out, one_if}
+use Rattle.dg_jobs.specs.Jobs.{inputs_of, phase_of, EndsAt, Follows}
 use Rattle.dg_jobs.specs.Piles.{choice_at}
-use Rattle.dg_jobs.proofs.Counts.{count_by-set, is_on-same, is_on-other}
+use Rattle.dg_jobs.proofs.Counts.{count_by-set}
 
 -- the same tables with other lists and counts
 abbrev pub changed : Tables → List Phase → List (Option ℕ) → List ℕ → List (Option ℕ) → ℕ → ℕ → ℕ → Tables

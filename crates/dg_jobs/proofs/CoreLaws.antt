@@ -1,10 +1,10 @@
-use Rattle.std.proofs.Common.{◌≡◌, ◌≢◌, ◌<◌, ◌⊎◌, ◌↔◌, ℕ, zero, suc, Option, Some, None, Bor, List, MatchOption, length, get_or, set, refl, sym, ap, ◌∙◌, subst, inl, inr, ⊎_elim, arith}
-use Rattle.std.proofs.lemmas.Bool.{cases_eq, cases_lt}
-use Rattle.std.proofs.lemmas.List.{get_or_past, get_or-set_same, get_or-set_other, length-set}
+use Rattle.std.proofs.Common.{◌≡◌, ◌≢◌, ◌<◌, ◌⊎◌, ◌↔◌, ℕ, zero, suc, Option, Some, None, Bor, List, MatchOption, length, set, refl, sym, ap, ◌∙◌, subst, inr, ⊎_elim}
+use Rattle.std.proofs.lemmas.Bool.{cases_eq}
+use Rattle.std.proofs.lemmas.List.{get_or-set_same, get_or-set_other}
 use Rattle.std.specs.Option.{option_copied}
 use Rattle.dg_jobs.specs.declared.phase.Phase.{Phase}
 use Rattle.dg_jobs.specs.declared.phase.Phase.TheVariants.{Asleep, Wanted, Out, Waits, Done}
-use Rattle.dg_jobs.specs.Jobs.{Jobs, phase_of, result_at, EndsAt, Follows, IsFinished, Reaches, Wakes}
+use Rattle.dg_jobs.specs.Jobs.{phase_of, result_at, EndsAt, Follows, Reaches, Wakes}
 use Rattle.dg_jobs.proofs.BoardLaws.{is_job}
 
 -- only jobs that are done have a result, where one more is done

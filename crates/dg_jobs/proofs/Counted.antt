@@ -1,5 +1,5 @@
-use Rattle.std.proofs.Common.{◌≡◌, ◌≢◌, ◌+◌, ◌<◌, ◌≤◌, ◌⊎◌, ℕ, zero, suc, Bool, true, false, cond, Option, Some, None, List, [], ◌∷◌, length, get_or, take, count_by, nat_eq, is_some, add-one, refl, sym, ap, ◌∙◌, subst, inl, inr, ⊎_elim, arith}
-use Rattle.std.proofs.lemmas.Bool.{cases_Bool, cases_lt, eqb-true, eq-eqb}
+use Rattle.std.proofs.Common.{◌≡◌, ◌+◌, ◌<◌, ◌≤◌, ℕ, zero, suc, Bool, true, false, cond, Option, Some, None, List, [], ◌∷◌, length, get_or, take, count_by, is_some, add-one, refl, sym, ap, ◌∙◌, subst, inl, inr, ⊎_elim, arith}
+use Rattle.std.proofs.lemmas.Bool.{cases_Bool, eqb-true, eq-eqb}
 use Rattle.std.proofs.lemmas.List.{take_all}
 use Rattle.std.proofs.lemmas.List.Sums.{count_by_more_yes, count_by_more_no, sum_by-cons}
 use Rattle.dg_jobs.specs.declared.phase.Phase.{Phase}
@@ -8,8 +8,7 @@ use Rattle.dg_jobs.specs.Board.{Tables, IsCalm, HasEnd, is_on, is_out}
 use Rattle.dg_jobs.specs.Counts.{HasCount}
 use Rattle.dg_jobs.specs.Jobs.{phase_of, EndsAt, Follows, IsFinished, IsOut, IsReady}
 use Rattle.dg_jobs.specs.Piles.{choice_at}
-use Rattle.dg_jobs.proofs.BoardLaws.{is_job}
-use Rattle.dg_jobs.proofs.Filing.{end_is_finished, finished_has_end, follows_has_end, not_none, on_is_ready, place_within, ready_is_on}
+use Rattle.dg_jobs.proofs.Filing.{end_is_finished, finished_has_end, follows_has_end, on_is_ready, ready_is_on}
 
 -- a test that tells which numbers have the property counts them
 HasCount-front : {X : Type 0} (P : ℕ → Type 0) (p : X → Bool) (xs : List X) (d : X) → ((k : ℕ) → p (get_or xs k d) ≡ true → P k) → ((k : ℕ) → P k → p (get_or xs k d) ≡ true) → (n : ℕ) → n ≤ length xs → HasCount P n (count_by p (take n xs))

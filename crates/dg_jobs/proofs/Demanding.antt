@@ -1,15 +1,15 @@
-use Rattle.std.proofs.Common.{◌≡◌, ◌≢◌, ◌+◌, ◌-◌, ◌^◌, ◌<◌, ◌≤◌, ◌⊎◌, ◌++◌, ◌∷◌, [], ℕ, zero, suc, Bool, true, false, Option, Some, None, List, length, get_or, set, take, count_by, nat_eq, is_some, Contains, All, refl, sym, ap, ◌∙◌, subst, inl, inr, ⊎_elim, arith}
-use Rattle.std.proofs.lemmas.Bool.{cases_eq, cases_lt, eq-eqb, ne_eqb}
-use Rattle.std.proofs.lemmas.List.{get_or_past, get_or_default, get_or-set_same, get_or-set_other, length-set}
+use Rattle.std.proofs.Common.{◌≡◌, ◌≢◌, ◌+◌, ◌<◌, ◌≤◌, ◌⊎◌, ◌∷◌, [], ℕ, zero, suc, true, false, Option, Some, None, List, length, get_or, set, count_by, is_some, Contains, refl, sym, ap, ◌∙◌, subst, inl, inr, ⊎_elim, arith}
+use Rattle.std.proofs.lemmas.Bool.{cases_eq, cases_lt, ne_eqb}
+use Rattle.std.proofs.lemmas.List.{get_or_past, get_or-set_same, get_or-set_other, length-set}
 use Rattle.dg_jobs.specs.declared.phase.Phase.{Phase}
-use Rattle.dg_jobs.specs.declared.phase.Phase.TheVariants.{Asleep, Wanted, Out, Waits, Done}
-use Rattle.dg_jobs.specs.Board.{Tables, Stands, Woken, Fits, HasEnd, IsCalm, IsFiled, NoneOn, WakesRow, is_asleep, is_on, is_out, one_if}
-use Rattle.dg_jobs.specs.Jobs.{inputs_of, phase_of, EndsAt, Needs, Reaches, Wakes, Walk}
+use Rattle.dg_jobs.specs.declared.phase.Phase.TheVariants.{Asleep, Wanted, Out}
+use Rattle.dg_jobs.specs.Board.{Tables, Woken, Fits, IsCalm, IsFiled, NoneOn, WakesRow, is_asleep, is_on, one_if}
+use Rattle.dg_jobs.specs.Jobs.{inputs_of, phase_of, Needs, Reaches, Wakes, Walk}
 use Rattle.dg_jobs.specs.Piles.{choice_at}
 use Rattle.dg_jobs.proofs.Counts.{count_by-set, is_on-same, is_on-other}
-use Rattle.dg_jobs.proofs.BoardLaws.{changed, is_job, EndsAt-keeps, Stands-frame, Fits-hold, Fits-drop, Fits-pop}
-use Rattle.dg_jobs.proofs.Filing.{not_none, same_some, Fits-file, NoneOn-set, NoneOn-file, on_woken, when_asleep, place_within}
-use Rattle.dg_jobs.proofs.Handing.{Fits-current, NoneOn-count, ready_lt}
+use Rattle.dg_jobs.proofs.BoardLaws.{changed, is_job, EndsAt-keeps, Stands-frame, Fits-pop}
+use Rattle.dg_jobs.proofs.Filing.{same_some, Fits-file, NoneOn-set, NoneOn-file, on_woken, when_asleep, place_within}
+use Rattle.dg_jobs.proofs.Handing.{Fits-current, NoneOn-count}
 
 -- a walk, and one input more
 pub Reaches-more : (inputs : List (List ℕ)) (job other next : ℕ) → Reaches inputs job other → Needs inputs other next → Reaches inputs job next

@@ -1,9 +1,9 @@
-use Rattle.std.proofs.Common.{◌≡◌, ◌≢◌, ◌+◌, ◌<◌, ◌≤◌, ◌⊎◌, ℕ, zero, suc, List, [], ◌∷◌, length, get_or, refl, sym, ap, ◌∙◌, subst, inl, inr, ⊎_elim, arith}
+use Rattle.std.proofs.Common.{◌≡◌, ◌≢◌, ◌+◌, ◌<◌, ℕ, zero, suc, List, [], ◌∷◌, length, get_or, refl, subst, inl, inr, arith}
 use Rattle.dg_jobs.specs.declared.phase.Phase.{Phase}
 use Rattle.dg_jobs.specs.declared.phase.Phase.TheVariants.{Asleep, Wanted, Out, Waits, Done}
 use Rattle.dg_jobs.specs.Calls.{NoneOut, NoneReady}
 use Rattle.dg_jobs.specs.Invariant.{NoReturn, Stays}
-use Rattle.dg_jobs.specs.Jobs.{Jobs, phase_of, EndsAt, IsFinished, IsOut, IsReady, Needs}
+use Rattle.dg_jobs.specs.Jobs.{Jobs, phase_of, IsFinished}
 use Rattle.dg_jobs.specs.Machine.{AreInputs, Chain, LeadsTo, Legal, Meanings, Event, State}
 use Rattle.dg_jobs.proofs.BoardLaws.{is_job}
 use Rattle.dg_jobs.proofs.Hanging.{Chain-join, stays_legal}

@@ -1,15 +1,14 @@
-use Rattle.std.proofs.Common.{◌≡◌, ◌≢◌, ◌+◌, ◌-◌, ◌^◌, ◌<◌, ◌≤◌, ◌⊎◌, ℕ, zero, suc, Bool, true, false, Option, Some, None, List, length, get_or, set, count_by, nat_eq, is_some, Contains, All, refl, sym, ap, ◌∙◌, subst, inl, inr, ⊎_elim, arith}
-use Rattle.std.proofs.lemmas.Bool.{cases_eq, cases_lt, eq-eqb, ne_eqb}
-use Rattle.std.proofs.lemmas.List.{get_or_past, get_or_default, get_or-set_same, get_or-set_other, length-set}
-use Rattle.std.proofs.lemmas.List.Sums.{count_by-le-length}
+use Rattle.std.proofs.Common.{◌≡◌, ◌≢◌, ◌+◌, ◌^◌, ◌<◌, ◌≤◌, ◌⊎◌, ℕ, false, Option, Some, None, List, length, get_or, set, nat_eq, refl, sym, ap, ◌∙◌, subst, inl, ⊎_elim, arith}
+use Rattle.std.proofs.lemmas.Bool.{eq-eqb}
+use Rattle.std.proofs.lemmas.List.{get_or-set_same, length-set}
 use Rattle.dg_jobs.specs.declared.phase.Phase.{Phase}
 use Rattle.dg_jobs.specs.declared.phase.Phase.TheVariants.{Asleep, Wanted, Out, Waits, Done}
-use Rattle.dg_jobs.specs.Board.{Tables, Stands, Sleeps, Is_out, Is_ready, Misses, Woken, Awaits, Passes_on, Ends, Ended, Passed_on, Fits, HasEnd, IsAwake, IsCalm, IsFiled, IsOpen, NoneOn, end_by, is_on, is_out, one_if, passed_of}
-use Rattle.dg_jobs.specs.Jobs.{inputs_of, phase_of, EndsAt, Follows, IsFinished, IsReady, Needs}
+use Rattle.dg_jobs.specs.Board.{Tables, Stands, Is_out, Awaits, Passes_on, Ends, Fits, HasEnd, IsCalm, IsFiled, NoneOn, is_on, is_out, one_if, passed_of}
+use Rattle.dg_jobs.specs.Jobs.{inputs_of, phase_of, Needs}
 use Rattle.dg_jobs.specs.Piles.{choice_at}
-use Rattle.dg_jobs.proofs.Counts.{count_by-set, count_by-lt, count_by-pos, is_on-same, is_on-other}
-use Rattle.dg_jobs.proofs.BoardLaws.{changed, is_job, Stands-frame, Fits-hold, Fits-drop, Fits-place, Fits-pop, Fits-phase}
-use Rattle.dg_jobs.proofs.Filing.{not_none, same_some, Fits-file, NoneOn-set, NoneOn-file, awake-set, on_ready, when_out, place_within}
+use Rattle.dg_jobs.proofs.Counts.{count_by-lt, count_by-pos, is_on-same, is_on-other}
+use Rattle.dg_jobs.proofs.BoardLaws.{changed, is_job, Fits-hold, Fits-drop, Fits-place, Fits-pop, Fits-phase}
+use Rattle.dg_jobs.proofs.Filing.{Fits-file, NoneOn-set, NoneOn-file, awake-set, on_ready, when_out, place_within}
 
 -- fewer jobs are handed out than there are, where one isn't
 pub out_lt : (t : Tables) (current hand job : ℕ) → Fits t current hand → job < length t.phases → phase_of t.phases job ≢ Out → t.out < length t.phases

@@ -1,16 +1,14 @@
-use Rattle.std.proofs.Common.{◌≡◌, ◌≢◌, ◌+◌, ◌<◌, ◌≤◌, ◌⊎◌, ℕ, zero, suc, Option, Some, None, List, [], ◌∷◌, length, get_or, set, replicate, refl, sym, ap, ◌∙◌, subst, inl, inr, ⊎_elim, arith}
+use Rattle.std.proofs.Common.{◌≡◌, ◌≢◌, ◌+◌, ◌<◌, ◌⊎◌, ℕ, zero, suc, List, [], ◌∷◌, length, set, replicate, refl, sym, ap, ◌∙◌, subst, inl, inr, ⊎_elim, arith}
 use Rattle.std.proofs.lemmas.Bool.{cases_eq, cases_lt}
 use Rattle.std.proofs.lemmas.List.{get_or_past, get_or-replicate, get_or-set_same, get_or-set_other, length-replicate, length-set}
 use Rattle.dg_jobs.specs.declared.phase.Phase.{Phase}
 use Rattle.dg_jobs.specs.declared.phase.Phase.TheVariants.{Asleep, Wanted, Out, Waits, Done}
-use Rattle.dg_jobs.specs.Calls.{NoneOut, NoneReady}
-use Rattle.dg_jobs.specs.Jobs.{Jobs, phase_of, EndsAt, IsDemanded, IsFinished, IsOut, IsReady, Needs, Reaches, Wakes, Walk, with_phase, with_result}
-use Rattle.dg_jobs.specs.Invariant.{InputsAwake, InputsFinished, NoReturn, Stays, TargetsAwake}
+use Rattle.dg_jobs.specs.Jobs.{Jobs, phase_of, IsFinished, Needs, Reaches, Wakes}
+use Rattle.dg_jobs.specs.Invariant.{InputsAwake, InputsFinished, NoReturn, Stays}
 use Rattle.dg_jobs.specs.Machine.{AreInputs, Chain, Comes, Demand, Event, Fill, Finish, Forward, LeadsTo, Legal, LegalFrom, MayCome, Meanings, PutBack, State, Take, start}
 use Rattle.dg_jobs.proofs.BoardLaws.{is_job, EndsAt-keeps}
 use Rattle.dg_jobs.proofs.Demanding.{Reaches-more}
 use Rattle.dg_jobs.proofs.Filing.{awake-set}
-use Rattle.dg_jobs.proofs.Repeats.{two_with_one_value}
 
 -- a walk stays one where its forwards do
 Chain-keeps : (inputs : List (List ℕ)) (phases phases' : List Phase) → ((job other : ℕ) → phase_of phases job ≡ Waits other → phase_of phases' job ≡ Waits other) → (steps job other : ℕ) → Chain inputs phases steps job other → Chain inputs phases' steps job other

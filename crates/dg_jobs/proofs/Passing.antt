@@ -1,15 +1,15 @@
-use Rattle.std.proofs.Common.{◌≡◌, ◌≢◌, ◌+◌, ◌-◌, ◌^◌, ◌<◌, ◌≤◌, ◌⊎◌, ℕ, zero, suc, Bool, true, false, Option, Some, None, List, length, get_or, set, count_by, nat_eq, is_some, Contains, All, refl, sym, ap, ◌∙◌, subst, inl, inr, ⊎_elim, arith}
-use Rattle.std.proofs.lemmas.Bool.{cases_eq, cases_lt, eq-eqb, ne_eqb}
-use Rattle.std.proofs.lemmas.List.{get_or_past, get_or_default, get_or-set_same, get_or-set_other, length-set}
+use Rattle.std.proofs.Common.{◌≡◌, ◌≢◌, ◌+◌, ◌<◌, ◌⊎◌, ℕ, suc, Option, Some, None, List, length, set, count_by, is_some, refl, sym, ap, ◌∙◌, subst, inl, inr, ⊎_elim, arith}
+use Rattle.std.proofs.lemmas.Bool.{ne_eqb}
+use Rattle.std.proofs.lemmas.List.{get_or-set_same}
 use Rattle.dg_jobs.specs.declared.phase.Phase.{Phase}
-use Rattle.dg_jobs.specs.declared.phase.Phase.TheVariants.{Asleep, Wanted, Out, Waits, Done}
-use Rattle.dg_jobs.specs.Board.{Tables, Stands, Passes_on, Ended, Passed_on, Ends, Fits, HasEnd, IsFiled, NoneOn, MovesPiles, WaitsOnJob, end_by, is_on, noted, one_if}
+use Rattle.dg_jobs.specs.declared.phase.Phase.TheVariants.{Wanted, Waits, Done}
+use Rattle.dg_jobs.specs.Board.{Tables, Stands, Passes_on, Ended, Passed_on, Fits, HasEnd, IsFiled, NoneOn, MovesPiles, WaitsOnJob, end_by, is_on, noted, one_if}
 use Rattle.dg_jobs.specs.Jobs.{inputs_of, phase_of, EndsAt, Needs}
 use Rattle.dg_jobs.specs.Piles.{choice_at}
 use Rattle.dg_jobs.proofs.Counts.{count_by-set, count_by-lt, is_on-same, is_on-other}
-use Rattle.dg_jobs.proofs.BoardLaws.{changed, is_job, Fits-hold, Fits-drop, Fits-place, Fits-pop, Fits-note, Fits-emptied}
-use Rattle.dg_jobs.proofs.Filing.{not_none, same_some, Fits-file, NoneOn-set, NoneOn-file, on_ends, on_other, place_within}
-use Rattle.dg_jobs.proofs.Handing.{Fits-current, NoneOn-count, ready_lt}
+use Rattle.dg_jobs.proofs.BoardLaws.{changed, Fits-drop, Fits-place, Fits-pop, Fits-note, Fits-emptied}
+use Rattle.dg_jobs.proofs.Filing.{not_none, Fits-file, NoneOn-set, NoneOn-file, on_ends, on_other, place_within}
+use Rattle.dg_jobs.proofs.Handing.{NoneOn-count, ready_lt}
 
 -- while the pile of a job is emptied
 pub record Passing (t₀ : Tables) (job : ℕ) (t : Tables) : Type 0 where

@@ -1,13 +1,12 @@
-use Rattle.std.proofs.Common.{◌≡◌, ◌≢◌, ◌+◌, ◌<◌, ◌≤◌, ◌⊎◌, ◌↔◌, ℕ, zero, suc, Option, Some, None, List, [], ◌∷◌, length, get_or, set, replicate, Contains, refl, sym, ap, ◌∙◌, subst, inl, inr, ⊎_elim, arith}
-use Rattle.std.proofs.lemmas.Bool.{cases_eq, cases_lt}
-use Rattle.std.proofs.lemmas.List.{get_or_past, get_or-replicate, get_or-set_same, get_or-set_other, length-replicate, length-set}
+use Rattle.std.proofs.Common.{◌≡◌, ◌≢◌, ◌<◌, ◌≤◌, ◌⊎◌, ℕ, zero, suc, Option, Some, None, List, [], ◌∷◌, length, set, replicate, Contains, refl, sym, ap, ◌∙◌, subst, inl, inr, ⊎_elim, arith}
+use Rattle.std.proofs.lemmas.Bool.{cases_lt}
+use Rattle.std.proofs.lemmas.List.{get_or_past, get_or-set_same, get_or-set_other, length-replicate, length-set}
 use Rattle.dg_jobs.specs.declared.phase.Phase.{Phase}
 use Rattle.dg_jobs.specs.declared.phase.Phase.TheVariants.{Asleep, Wanted, Out, Waits, Done}
-use Rattle.dg_jobs.specs.Calls.{NoneOut, NoneReady}
 use Rattle.dg_jobs.specs.Faithful.{AreRight, Faithful, FaithfulFrom, FitTogether, GoesOn, IsFaithful, IsMade, IsUsed, MeaningWalk, ScopedFull, UsedAfter}
 use Rattle.dg_jobs.specs.Invariant.{IsWanted, Keeps, Stays}
-use Rattle.dg_jobs.specs.Jobs.{Jobs, inputs_of, phase_of, result_at, EndsAt, Follows, IsDemanded, IsFinished, IsOut, IsReady, Needs, Reaches, Wakes, Walk, with_phase, with_result}
-use Rattle.dg_jobs.specs.Machine.{AreInputs, Chain, Comes, Demand, Event, Fill, Finish, Forward, IsFull, LeadsTo, Legal, LegalFrom, MayCome, Meanings, PutBack, State, Take, start}
+use Rattle.dg_jobs.specs.Jobs.{Jobs, inputs_of, phase_of, result_at, EndsAt, Follows, IsFinished, IsOut, Needs, Reaches, Wakes, Walk}
+use Rattle.dg_jobs.specs.Machine.{AreInputs, Chain, Comes, Demand, Event, Fill, Finish, Forward, IsFull, LegalFrom, MayCome, Meanings, PutBack, State, Take, start}
 use Rattle.dg_jobs.proofs.BoardLaws.{is_job}
 use Rattle.dg_jobs.proofs.Finishing.{all_finished}
 use Rattle.dg_jobs.proofs.Hanging.{all_asleep, set_cases, stays_legal, stays_next, wakes_waits}

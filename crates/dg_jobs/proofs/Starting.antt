@@ -1,11 +1,11 @@
-use Rattle.std.proofs.Common.{◌≡◌, ◌≢◌, ◌+◌, ◌^◌, ◌<◌, ◌≤◌, ℕ, zero, suc, Bool, true, false, cond, Option, Some, None, List, [], ◌∷◌, length, get_or, replicate, count_by, is_some, refl, sym, ap, ◌∙◌, subst, ⊎_elim, arith}
+use Rattle.std.proofs.Common.{◌≡◌, ◌+◌, ◌^◌, ◌<◌, ℕ, zero, suc, Bool, false, cond, Option, None, List, length, get_or, replicate, count_by, is_some, refl, sym, ap, ◌∙◌, subst, ⊎_elim, arith}
 use Rattle.std.proofs.lemmas.Bool.{cases_lt}
 use Rattle.std.proofs.lemmas.List.{get_or_past, get_or-replicate, length-replicate}
 use Rattle.std.proofs.lemmas.List.Sums.{sum_by-cons}
 use Rattle.dg_jobs.specs.declared.phase.Phase.{Phase}
 use Rattle.dg_jobs.specs.declared.phase.Phase.TheVariants.{Asleep}
-use Rattle.dg_jobs.specs.Board.{Tables, Sleeps, IsCalm, is_on, is_out, one_if}
-use Rattle.dg_jobs.specs.Jobs.{inputs_of, phase_of, Needs}
+use Rattle.dg_jobs.specs.Board.{Sleeps, IsCalm, is_on, is_out}
+use Rattle.dg_jobs.specs.Jobs.{phase_of, Needs}
 use Rattle.dg_jobs.specs.Piles.{choice_at}
 use Rattle.dg_jobs.proofs.Filing.{not_none}
 

@@ -1,14 +1,13 @@
-use Rattle.std.proofs.Common.{◌≡◌, ◌≢◌, ◌+◌, ◌-◌, ◌^◌, ◌<◌, ◌≤◌, ◌⊎◌, ◌++◌, ◌∷◌, [], ℕ, zero, suc, Bool, true, false, Option, Some, None, List, length, get_or, set, take, count_by, nat_eq, is_some, Contains, All, refl, sym, ap, ◌∙◌, subst, inl, inr, ⊎_elim, arith}
-use Rattle.std.proofs.lemmas.Bool.{cases_eq, cases_lt, eq-eqb, ne_eqb}
-use Rattle.std.proofs.lemmas.List.{get_or_past, get_or_default, get_or-set_same, get_or-set_other, length-set, take_more}
+use Rattle.std.proofs.Common.{◌≡◌, ◌≢◌, ◌+◌, ◌<◌, ◌⊎◌, ◌++◌, ◌∷◌, [], ℕ, true, false, Option, Some, None, List, length, get_or, set, take, Contains, refl, sym, ap, ◌∙◌, subst, inl, inr, ⊎_elim, arith}
+use Rattle.std.proofs.lemmas.Bool.{cases_eq}
+use Rattle.std.proofs.lemmas.List.{get_or-set_same, get_or-set_other, length-set, take_more}
 use Rattle.std.proofs.lemmas.List.Elements.{Contains-append_left, Contains-push, Contains-push_cases}
 use Rattle.dg_jobs.specs.declared.phase.Phase.{Phase}
-use Rattle.dg_jobs.specs.declared.phase.Phase.TheVariants.{Asleep, Wanted, Out, Waits, Done}
-use Rattle.dg_jobs.specs.Board.{Tables, WakesRow, is_asleep, is_on, is_out, one_if}
-use Rattle.dg_jobs.specs.Jobs.{inputs_of, phase_of, Needs}
+use Rattle.dg_jobs.specs.declared.phase.Phase.TheVariants.{Asleep, Wanted}
+use Rattle.dg_jobs.specs.Board.{WakesRow, is_asleep, is_on, is_out, one_if}
+use Rattle.dg_jobs.specs.Jobs.{phase_of}
 use Rattle.dg_jobs.specs.Piles.{choice_at}
 use Rattle.dg_jobs.proofs.Counts.{count_by-set, is_on-same, is_on-other}
-use Rattle.dg_jobs.proofs.BoardLaws.{is_job}
 
 pub WakesRow-none : (phases : List Phase) (places : List (Option ℕ)) → WakesRow [] phases places phases places
 WakesRow-none phases places = record { count = refl; count_places = refl; each = λ other. inl (refl, refl); woken = λ other has. absurd (omega (arith, has.1)); ready = refl; out = refl; left = refl }

@@ -1,4 +1,4 @@
-use Rattle.std.specs.Prelude.{◌≡◌, ◌≢◌, ◌+◌, ◌^◌, ◌<◌, ◌≤◌, ◌⊎◌, ℕ, zero, suc, Bool, true, false, nat_eq, Option, Some, None, List, length, map, count_by, slice_index_or, slice_set, is_some, Contains}
+use Rattle.std.specs.Prelude.{◌≡◌, ◌≢◌, ◌+◌, ◌^◌, ◌<◌, ◌≤◌, ◌⊎◌, ℕ, Bool, true, false, nat_eq, Option, Some, None, List, length, map, count_by, slice_index_or, slice_set, is_some, Contains}
 use Rattle.dg_jobs.specs.declared.phase.Phase.{Phase}
 use Rattle.dg_jobs.specs.declared.phase.Phase.TheVariants.{Asleep, Wanted, Out, Waits, Done}
 use Rattle.dg_jobs.specs.declared.board.Board.{Board}

@@ -1,5 +1,4 @@
-use Rattle.std.specs.Prelude.{◌≡◌, ◌<◌, ℕ, Option, Some, None, length}
-use Rattle.dg_jobs.specs.declared.phase.Phase.{Phase}
+use Rattle.std.specs.Prelude.{◌≡◌, ◌<◌, ℕ, length}
 use Rattle.dg_jobs.specs.declared.phase.Phase.TheVariants.{Out, Waits}
 use Rattle.dg_jobs.specs.declared.calls.Next.{Next}
 use Rattle.dg_jobs.specs.declared.calls.Next.TheVariants.{Job, Idle, Ended}
@@ -7,7 +6,7 @@ use Rattle.dg_jobs.specs.declared.calls.JobEnd.{JobEnd}
 use Rattle.dg_jobs.specs.declared.calls.JobEnd.TheVariants.{Done as Result, Forward}
 use Rattle.dg_jobs.specs.declared.calls.JobCounts.{JobCounts}
 use Rattle.dg_jobs.specs.Counts.{HasCount}
-use Rattle.dg_jobs.specs.Jobs.{Jobs, phase_of, EndsAt, IsDemanded, IsFinished, IsOut, IsReady, with_phase, with_result}
+use Rattle.dg_jobs.specs.Jobs.{Jobs, IsDemanded, IsFinished, IsOut, IsReady, with_phase, with_result}
 
 -- no job is ready
 abbrev pub NoneReady : {R : Type 0} → Jobs R → Type 0

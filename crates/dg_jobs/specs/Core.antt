@@ -1,4 +1,4 @@
-use Rattle.std.specs.Prelude.{◌≡◌, ℕ, Option, Some, length}
+use Rattle.std.specs.Prelude.{◌≡◌, ℕ, Some, length}
 use Rattle.dg_jobs.specs.declared.job_core.JobCore.TheInside.{Inside}
 use Rattle.dg_jobs.specs.declared.phase.Phase.TheVariants.{Done}
 use Rattle.dg_jobs.specs.Board.{tables, IsCalm}

@@ -1,7 +1,7 @@
-use Rattle.std.specs.Prelude.{◌≡◌, ◌≢◌, ◌<◌, ◌≤◌, ◌⊎◌, ◌↔◌, ℕ, zero, suc, Option, Some, None, List, [], ◌∷◌, length, Contains}
+use Rattle.std.specs.Prelude.{◌≡◌, ◌≢◌, ◌<◌, ◌≤◌, ◌⊎◌, ◌↔◌, ℕ, zero, suc, Some, None, List, [], ◌∷◌, length, Contains}
 use Rattle.dg_jobs.specs.declared.phase.Phase.TheVariants.{Asleep}
 use Rattle.dg_jobs.specs.Calls.{NoneOut, NoneReady}
-use Rattle.dg_jobs.specs.Jobs.{Jobs, phase_of, result_at, EndsAt, IsFinished, Needs}
+use Rattle.dg_jobs.specs.Jobs.{phase_of, result_at, EndsAt, IsFinished, Needs}
 use Rattle.dg_jobs.specs.Machine.{Comes, Demand, Event, Fill, Finish, Forward, IsFull, MayCome, Meanings, PutBack, State, Take, start}
 
 -- the job needs the other, or its content ends in that of the other's cell

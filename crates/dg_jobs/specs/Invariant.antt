@@ -1,6 +1,6 @@
-use Rattle.std.specs.Prelude.{◌≡◌, ◌≢◌, ◌<◌, ◌⊎◌, ℕ, zero, suc, Option, Some, None, List, length, Contains}
+use Rattle.std.specs.Prelude.{◌≡◌, ◌≢◌, ◌<◌, ◌⊎◌, ℕ, suc, Option, Some, None, List, length, Contains}
 use Rattle.dg_jobs.specs.declared.phase.Phase.{Phase}
-use Rattle.dg_jobs.specs.declared.phase.Phase.TheVariants.{Asleep, Wanted, Out, Waits, Done}
+use Rattle.dg_jobs.specs.declared.phase.Phase.TheVariants.{Asleep, Wanted, Waits, Done}
 use Rattle.dg_jobs.specs.Faithful.{IsUsed, ScopedFull}
 use Rattle.dg_jobs.specs.Jobs.{phase_of, result_at, IsFinished, Needs}
 use Rattle.dg_jobs.specs.Machine.{Chain, Meanings}

@@ -1,7 +1,7 @@
-use Rattle.std.specs.Prelude.{◌≡◌, ◌≢◌, ◌+◌, ◌<◌, ◌≤◌, ◌⊎◌, ◌↔◌, ℕ, zero, suc, Bool, false, nat_eq, Option, Some, None, List, [], ◌∷◌, length, replicate, count_by, Contains}
+use Rattle.std.specs.Prelude.{◌≡◌, ◌≢◌, ◌<◌, ◌⊎◌, ℕ, zero, suc, Bool, false, nat_eq, Option, None, List, [], ◌∷◌, length, replicate, count_by, Contains}
 use Rattle.dg_jobs.specs.declared.phase.Phase.{Phase}
 use Rattle.dg_jobs.specs.declared.phase.Phase.TheVariants.{Asleep, Wanted, Out, Waits}
-use Rattle.dg_jobs.specs.Jobs.{Jobs, phase_of, EndsAt, IsDemanded, IsFinished, IsOut, IsReady, Needs, result_at, with_phase, with_result}
+use Rattle.dg_jobs.specs.Jobs.{Jobs, phase_of, IsDemanded, IsFinished, IsOut, IsReady, Needs, with_phase, with_result}
 
 -- what can happen: to a job, or to a cell that jobs fill for one another
 pub data Event (R C : Type 0) : Type 0 where

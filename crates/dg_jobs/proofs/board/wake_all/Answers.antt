@@ -1,4 +1,4 @@
-use Rattle.std.proofs.Common.{◌≡◌, ◌<◌, ◌+◌, ℕ, Some, length, get_or, set, sym, ap, ◌∙◌, subst, arith}
+use Rattle.std.proofs.Common.{◌<◌, length, get_or, arith}
 use Rattle.dg_jobs.proofs.Waking.{WakesRow-more}
 use Rattle.dg_jobs.proofs.board.wake_all.Goals as goal
 

@@ -1,4 +1,4 @@
-use Rattle.std.proofs.Common.{◌≡◌, Option, None, replicate}
+use Rattle.std.proofs.Common.{◌≡◌, None, replicate}
 use Rattle.dg_jobs.proofs.job_core.nothings.Given as goal
 
 abbrev pub invariant-loop-job : goal.invariant-loop-job

@@ -1,10 +1,10 @@
-use Rattle.std.proofs.Common.{◌≡◌, ◌+◌, ◌<◌, ◌∷◌, [], ℕ, Some, List, Contains, length, get_or, map, sym, ◌∙◌, ap, subst, arith}
+use Rattle.std.proofs.Common.{◌≡◌, ◌+◌, ◌<◌, ◌∷◌, [], Some, Contains, length, get_or, sym, ◌∙◌, ap, subst, arith}
 use Rattle.std.proofs.lemmas.List.{length-map}
 use Rattle.std.proofs.lemmas.List.Elements.{Contains-get_or}
 use Rattle.dg_jobs.specs.Board.{tables, IsCalm, WakesRow}
-use Rattle.dg_jobs.specs.Jobs.{inputs_of, Wakes}
+use Rattle.dg_jobs.specs.Jobs.{inputs_of}
 use Rattle.dg_jobs.specs.Piles.{choice_at}
-use Rattle.dg_jobs.proofs.Demanding.{Demanding-start, Demanding-step, Demanding-end, free_when_asleep, taken_up, IsTakenUp, IsStep, stays_awake}
+use Rattle.dg_jobs.proofs.Demanding.{Demanding-start, Demanding-step, Demanding-end, free_when_asleep, taken_up}
 use Rattle.dg_jobs.proofs.Handing.{ready_lt}
 use Rattle.dg_jobs.proofs.BoardLaws.{changed}
 use Rattle.dg_jobs.proofs.RowLaws.{inputs_read}

@@ -1,6 +1,5 @@
-use Rattle.std.proofs.Common.{◌≡◌, ◌<◌, ◌≤◌, ℕ, Option, Some, None, MatchOption, length, sym, ◌∙◌, arith}
+use Rattle.std.proofs.Common.{◌≡◌, ℕ, Option, Some, None, MatchOption, sym, ◌∙◌, arith}
 use Rattle.std.proofs.lemmas.List.{get_or_past, get_or_read}
-use Rattle.dg_jobs.specs.declared.board.Board.{Board}
 use Rattle.dg_jobs.specs.Board.{tables, IsCalm, Tables}
 use Rattle.dg_jobs.specs.Jobs.{EndsAt, IsFinished}
 use Rattle.dg_jobs.specs.Piles.{choice_at}

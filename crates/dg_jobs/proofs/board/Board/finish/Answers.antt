@@ -1,7 +1,7 @@
-use Rattle.std.proofs.Common.{◌≡◌, ◌+◌, ◌-◌, ◌<◌, ℕ, Some, length, set, refl, sym, ◌∙◌, ap, subst, inl, arith}
+use Rattle.std.proofs.Common.{◌≡◌, ◌+◌, ◌-◌, Some, length, set, refl, ◌∙◌, ap, inl, arith}
 use Rattle.dg_jobs.specs.declared.phase.Phase.TheVariants.{Done}
-use Rattle.dg_jobs.specs.Board.{tables, Fits, HasEnd}
-use Rattle.dg_jobs.proofs.Handing.{Fits-ending, out_pos, none_woken_ending, calm_settled}
+use Rattle.dg_jobs.specs.Board.{tables}
+use Rattle.dg_jobs.proofs.Handing.{Fits-ending, out_pos}
 use Rattle.dg_jobs.proofs.board.Board.finish.Goals as goal
 
 pub settle-requires-clause-fits : goal.settle-requires-clause-fits

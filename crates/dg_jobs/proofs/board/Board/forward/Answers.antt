@@ -1,8 +1,8 @@
-use Rattle.std.proofs.Common.{◌≡◌, ◌+◌, ◌-◌, ◌<◌, ℕ, Some, None, length, set, get_or, refl, sym, ◌∙◌, ap, subst, inr, arith}
+use Rattle.std.proofs.Common.{◌≡◌, ◌+◌, ◌-◌, ◌<◌, ℕ, Some, None, length, set, refl, sym, ◌∙◌, ap, subst, inr, arith}
 use Rattle.std.proofs.lemmas.List.{length-map, get_or_read}
 use Rattle.dg_jobs.specs.declared.board.Board.{Board}
-use Rattle.dg_jobs.specs.declared.phase.Phase.TheVariants.{Asleep, Out, Waits}
-use Rattle.dg_jobs.specs.Board.{tables, Fits, HasEnd, IsCalm, Tables}
+use Rattle.dg_jobs.specs.declared.phase.Phase.TheVariants.{Out, Waits}
+use Rattle.dg_jobs.specs.Board.{tables, IsCalm}
 use Rattle.dg_jobs.specs.Jobs.{phase_of, Wakes}
 use Rattle.dg_jobs.specs.Piles.{choice_at}
 use Rattle.dg_jobs.proofs.Demanding.{Wakes-set, no_end, some_end, still_out}

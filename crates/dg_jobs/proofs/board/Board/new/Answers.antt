@@ -1,4 +1,4 @@
-use Rattle.std.proofs.Common.{◌≡◌, ◌+◌, ℕ, Option, None, length, map, replicate, sym, ap, ◌∙◌, rules, arith}
+use Rattle.std.proofs.Common.{◌≡◌, None, map, replicate, rules, arith}
 use Rattle.std.proofs.lemmas.List.{length-map}
 use Rattle.dg_jobs.specs.declared.phase.Phase.TheVariants.{Asleep}
 use Rattle.dg_jobs.proofs.RowLaws.{rows_in_range}

@@ -1,4 +1,4 @@
-use Rattle.std.proofs.Common.{◌≡◌, ◌≢◌, Some, ◌+◌, ◌<◌, ℕ, length, set, get_or, refl, sym, ◌∙◌, ap, arith}
+use Rattle.std.proofs.Common.{◌≡◌, ◌≢◌, Some, ◌+◌, ◌<◌, ℕ, length, set, get_or, sym, ◌∙◌, ap, arith}
 use Rattle.std.proofs.lemmas.List.{get_or_read}
 use Rattle.std.proofs.lemmas.List.Elements.{Contains-get_or}
 use Rattle.dg_jobs.specs.declared.board.Board.{Board}
@@ -6,7 +6,7 @@ use Rattle.dg_jobs.specs.declared.phase.Phase.{Phase}
 use Rattle.dg_jobs.specs.declared.phase.Phase.TheVariants.{Asleep, Wanted}
 use Rattle.dg_jobs.specs.Board.{tables}
 use Rattle.dg_jobs.specs.Jobs.{inputs_of, phase_of}
-use Rattle.dg_jobs.proofs.Passing.{IsPassed, Passing, Passing-file, Passing-push, Passing-end, passed}
+use Rattle.dg_jobs.proofs.Passing.{Passing-file, Passing-push, Passing-end, passed}
 use Rattle.dg_jobs.proofs.board.Board.pass_on.Goals as goal
 
 -- the phase that is read is that of the job

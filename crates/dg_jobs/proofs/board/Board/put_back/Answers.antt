@@ -1,9 +1,8 @@
-use Rattle.std.proofs.Common.{◌≡◌, ◌≢◌, ◌+◌, ◌-◌, ◌<◌, ℕ, length, set, Some, None, refl, sym, ◌∙◌, ap, subst, arith}
+use Rattle.std.proofs.Common.{◌-◌, length, set, refl, arith}
 use Rattle.std.proofs.lemmas.List.Elements.{Contains-get_or}
-use Rattle.dg_jobs.specs.declared.phase.Phase.TheVariants.{Asleep, Wanted, Out}
+use Rattle.dg_jobs.specs.declared.phase.Phase.TheVariants.{Wanted}
 use Rattle.dg_jobs.specs.Board.{tables}
-use Rattle.dg_jobs.specs.Jobs.{inputs_of, phase_of}
-use Rattle.dg_jobs.proofs.BoardLaws.{is_job}
+use Rattle.dg_jobs.specs.Jobs.{inputs_of}
 use Rattle.dg_jobs.proofs.Handing.{calm_put_back, held_out, out_pos, ready_lt}
 use Rattle.dg_jobs.proofs.board.Board.put_back.Goals as goal
 

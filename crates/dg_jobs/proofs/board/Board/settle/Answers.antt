@@ -1,4 +1,4 @@
-use Rattle.std.proofs.Common.{◌≡◌, ◌+◌, ◌<◌, ℕ, Some, length, sym, ◌∙◌, ap, subst, arith}
+use Rattle.std.proofs.Common.{◌≡◌, ◌+◌, Some, length, sym, ◌∙◌, ap, subst, arith}
 use Rattle.dg_jobs.specs.Board.{tables, Fits, HasEnd}
 use Rattle.dg_jobs.proofs.Passing.{to_note}
 use Rattle.dg_jobs.proofs.board.Board.settle.Goals as goal

@@ -1,4 +1,4 @@
-use Rattle.std.proofs.Common.{◌≡◌, ◌+◌, ◌-◌, ◌^◌, ◌<◌, ℕ, Some, None, length, set, refl, sym, ◌∙◌, ap, arith}
+use Rattle.std.proofs.Common.{◌≡◌, ◌+◌, ◌-◌, Some, length, set, refl, sym, ◌∙◌, ap, arith}
 use Rattle.dg_jobs.specs.declared.phase.Phase.TheVariants.{Out}
 use Rattle.dg_jobs.specs.Board.{tables}
 use Rattle.dg_jobs.specs.Piles.{choice_at}

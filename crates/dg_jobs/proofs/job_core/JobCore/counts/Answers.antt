@@ -1,4 +1,4 @@
-use Rattle.std.proofs.Common.{◌≡◌, length, sym, subst}
+use Rattle.std.proofs.Common.{length, sym, subst}
 use Rattle.dg_jobs.specs.Board.{tables}
 use Rattle.dg_jobs.specs.Calls.{AreCounts}
 use Rattle.dg_jobs.specs.declared.calls.JobCounts.{JobCounts}

@@ -1,8 +1,8 @@
-use Rattle.std.proofs.Common.{◌≡◌, ◌<◌, Some, None, ℕ, length, set, sym, ap, ◌∙◌, subst, arith}
+use Rattle.std.proofs.Common.{◌≡◌, Some, length, sym, ap, ◌∙◌}
 use Rattle.std.proofs.lemmas.List.{length-set}
-use Rattle.dg_jobs.specs.declared.phase.Phase.TheVariants.{Asleep, Done, Out, Waits}
+use Rattle.dg_jobs.specs.declared.phase.Phase.TheVariants.{Done, Out, Waits}
 use Rattle.dg_jobs.specs.Board.{tables}
-use Rattle.dg_jobs.specs.Jobs.{phase_of, result_at}
+use Rattle.dg_jobs.specs.Jobs.{phase_of}
 use Rattle.dg_jobs.proofs.CoreLaws.{done_more, done_still}
 use Rattle.dg_jobs.proofs.job_core.JobCore.finish.Goals as goal
 

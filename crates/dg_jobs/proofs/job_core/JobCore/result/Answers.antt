@@ -1,9 +1,6 @@
-use Rattle.std.proofs.Common.{◌≡◌, ◌<◌, Some, None, MatchOption, ℕ, length, sym, ap, ◌∙◌, subst, arith}
+use Rattle.std.proofs.Common.{◌≡◌, ◌<◌, Some, None, MatchOption, ℕ, length, ◌∙◌, subst, arith}
 use Rattle.std.proofs.lemmas.List.{get_or_read}
-use Rattle.dg_jobs.specs.declared.phase.Phase.{Phase}
-use Rattle.dg_jobs.specs.declared.phase.Phase.TheVariants.{Asleep, Done}
-use Rattle.dg_jobs.specs.Jobs.{phase_of, result_at, EndsAt, Follows}
-use Rattle.dg_jobs.proofs.BoardLaws.{is_job}
+use Rattle.dg_jobs.specs.Jobs.{result_at, EndsAt}
 use Rattle.dg_jobs.proofs.CoreLaws.{result_found, last_is_job}
 use Rattle.dg_jobs.proofs.job_core.JobCore.result.Goals as goal
 

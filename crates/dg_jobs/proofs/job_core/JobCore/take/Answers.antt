@@ -1,8 +1,7 @@
-use Rattle.std.proofs.Common.{◌≡◌, ℕ, ◌∙◌, ap, subst, refl}
-use Rattle.dg_jobs.specs.declared.calls.Next.TheVariants.{Idle, Ended}
+use Rattle.std.proofs.Common.{subst, refl}
 use Rattle.dg_jobs.specs.Board.{tables}
-use Rattle.dg_jobs.specs.Calls.{NoneReady, NoneOut, SomeOut}
-use Rattle.dg_jobs.specs.Jobs.{IsOut, IsReady}
+use Rattle.dg_jobs.specs.Calls.{NoneReady, SomeOut}
+use Rattle.dg_jobs.specs.Jobs.{IsOut}
 use Rattle.dg_jobs.proofs.Counted.{some_out}
 use Rattle.dg_jobs.proofs.job_core.JobCore.take.Goals as goal
 

@@ -1,5 +1,4 @@
-use Rattle.std.proofs.Common.{◌≡◌, ◌+◌, ℕ, List, Option, None, sym, subst, replicate, rules}
-use Rattle.dg_jobs.specs.Piles.{AreStacked}
+use Rattle.std.proofs.Common.{◌≡◌, ◌+◌, None, replicate, rules}
 use Rattle.dg_jobs.proofs.PileLaws.{AreStacked-new}
 use Rattle.dg_jobs.proofs.piles.Piles.new.Goals as goal
 
