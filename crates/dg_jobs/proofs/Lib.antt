@@ -1,0 +1,17 @@
+pub mod BoardLaws
+pub mod Finishing
+pub mod Handing
+pub mod Hanging
+pub mod CoreLaws
+pub mod Counted
+pub mod Counts
+pub mod Demanding
+pub mod Filing
+pub mod Passing
+pub mod PileLaws
+pub mod Repeats
+pub mod Rightness
+pub mod RowLaws
+pub mod Starting
+pub mod Taking
+pub mod Waking

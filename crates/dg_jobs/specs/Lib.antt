@@ -1,0 +1,9 @@
+pub mod Board
+pub mod Calls
+pub mod Core
+pub mod Counts
+pub mod Faithful
+pub mod Invariant
+pub mod Jobs
+pub mod Machine
+pub mod Piles
