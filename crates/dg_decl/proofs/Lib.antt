@@ -18,3 +18,4 @@ pub mod GraphLemmas
 pub mod SizeLemmas
 pub mod OnceLemmas
 pub mod NodesOnce
+pub mod GroupTypes

@@ -1,11 +1,12 @@
 -- The laws of the graph of a document.
-use Rattle.std.specs.Prelude.{◌≡◌, ◌↔◌, ℕ, IsTrue, Bool, true, false, ◌||◌, Contains}
+use Rattle.std.specs.Prelude.{◌≡◌, ◌↔◌, ℕ, IsTrue, Bool, true, false, ◌||◌, [], Contains}
 use Rattle.dg_types.specs.declared.key.Core.{Core}
 use Rattle.dg_types.specs.declared.key.Core.TheVariants as core
 use Rattle.dg_decl.specs.declared.document.Doc.{Doc}
 use Rattle.dg_decl.specs.declared.binding.Bind.{Bind}
 use Rattle.dg_decl.specs.declared.graph.Node.{Node}
 use Rattle.dg_decl.specs.Lookup.{bindings, is_contribution, is_declaration}
+use Rattle.dg_decl.specs.Stages.Types.{types_stage}
 use Rattle.dg_decl.specs.Graph.{targets, entry_nodes, candidates, nodes, AreNodes, OnCycle, is_on_cycle, OnCall, is_on_call, needed_targets}
 use Rattle.dg_decl.specs.Sizes.{IsProduction, is_production, IsDepth, depth, size, is_shared, weight}
 use Rattle.dg_num.specs.Weights.{AddsUp}
@@ -19,6 +20,10 @@ abbrev pub OptionalsAreNoGroups : Doc → Type 0
 OptionalsAreNoGroups doc =
     (b : Bind) → Contains (bindings doc) b → (is_contribution b.kind || is_declaration b.kind) ≡ true
     → is_optional_type b.key.core ≡ false
+
+-- where the stage of types finds nothing, no set or map has the type of an optional
+abbrev pub TypesMakeNoGroupsOfOptionals : Type 0
+TypesMakeNoGroupsOfOptionals = (doc : Doc) → types_stage doc ≡ [] → OptionalsAreNoGroups doc
 
 -- an entry point is a candidate, and what a candidate needs is one
 abbrev pub TargetsAreCandidates : Type 0

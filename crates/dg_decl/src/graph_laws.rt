@@ -2,7 +2,14 @@
 //! steps, more steps come to nothing new.
 
 ghost use Rattle.dg_decl.specs.GraphLaws.{CyclesByShortWalks, DepthsAreLongestWalks, NodesAreTheReachableOnes};
-ghost use Rattle.dg_decl.specs.GraphLaws.{ProductionsByShortWalks, TargetsAreCandidates, WeightsAddUp};
+ghost use Rattle.dg_decl.specs.GraphLaws.{ProductionsByShortWalks, TargetsAreCandidates};
+ghost use Rattle.dg_decl.specs.GraphLaws.{TypesMakeNoGroupsOfOptionals, WeightsAddUp};
+
+/// Where the stage of types finds nothing, no contribution and no `multibinds` line has the type of an optional. The other
+/// laws of the graph ask for no more of a document.
+pub fn types_make_no_groups_of_optionals()
+    ensures exact { TypesMakeNoGroupsOfOptionals }
+{}
 
 /// Each node that an entry point or a node needs is among the candidates, so that nothing is lost where nodes are listed.
 pub fn targets_are_candidates()
