@@ -25,7 +25,7 @@ use Rattle.dg_decl.proofs.NodeTargets.{targets_are}
 
 -- ---- nodes
 
-reachable_by_short_walks : (doc : Doc) → OptionalsAreNoGroups doc → (n : Node) → IsTrue (is_reachable doc n) ↔ IsReachable doc n
+pub reachable_by_short_walks : (doc : Doc) → OptionalsAreNoGroups doc → (n : Node) → IsTrue (is_reachable doc n) ↔ IsReachable doc n
 unfolding is_reachable
 reachable_by_short_walks doc plain n =
     walks_among same_node node_decides (targets doc) (candidates doc) (entry_nodes doc)
@@ -33,11 +33,12 @@ reachable_by_short_walks doc plain n =
 
 pub reached_nodes : (doc : Doc) → OptionalsAreNoGroups doc → (n : Node) → Contains (nodes doc) n ↔ IsReachable doc n
 unfolding nodes
-reached_nodes doc plain n =
-    (λ c. (reachable_by_short_walks doc plain n).0 (out_filter (is_reachable doc) (candidates doc) n c).1,
-     λ w. in_filter (is_reachable doc) (candidates doc) n
-          (reached_in (targets doc) (candidates doc) (entry_nodes doc) (λ m o c h. targets_are doc plain m o c h) (λ m c. entries_are doc m c) n w)
-          ((reachable_by_short_walks doc plain n).1 w))
+reached_nodes doc plain n = (
+  λ c. (reachable_by_short_walks doc plain n).0 (out_filter (is_reachable doc) (candidates doc) n c).1,
+  λ w. in_filter (is_reachable doc) (candidates doc) n
+      (reached_in (targets doc) (candidates doc) (entry_nodes doc) (λ m o c h. targets_are doc plain m o c h) (λ m c. entries_are doc m c) n w)
+      ((reachable_by_short_walks doc plain n).1 w),
+)
 
 pub node_is_candidate : (doc : Doc) (n : Node) → Contains (nodes doc) n → Contains (candidates doc) n
 unfolding nodes
@@ -103,17 +104,22 @@ needed_by_short_walks doc plain m n c =
 
 call_by_short_walks : (doc : Doc) → OptionalsAreNoGroups doc → (n : Node) → Contains (candidates doc) n → IsTrue (is_on_call doc n) ↔ OnCall doc n
 unfolding is_on_call
-call_by_short_walks doc plain n c =
-    (λ h. (let m = any_found (λ m. leads doc n m && list_any (λ t. leads doc t n) (called_targets doc m)) (candidates doc) h in
-        let t = any_found (λ t. leads doc t n) (called_targets doc m.at) (second_so _ _ m.passes) in
-        (m.at, t.at, (needed_by_short_walks doc plain n m.at c).0 (first_so _ _ m.passes), t.among,
-         (needed_by_short_walks doc plain t.at n (stay doc plain is_called m.at t.at m.among t.among)).0 t.passes)),
-     λ w. (let m : Node = w.0 in let t : Node = w.1 in
-        let among = reached_in (needed_targets doc) (candidates doc) (n ∷ []) (stay doc plain _) (only_in doc n c) m w.2 in
-        let back = any_from (λ t. leads doc t n) (called_targets doc m) t w.3
-            ((needed_by_short_walks doc plain t n (stay doc plain is_called m t among w.3)).1 w.4) in
-        any_from (λ m. leads doc n m && list_any (λ t. leads doc t n) (called_targets doc m)) (candidates doc) m among
-        (both_so _ _ ((needed_by_short_walks doc plain n m c).1 w.2) back)))
+call_by_short_walks doc plain n c = (
+  λ h. (let m = any_found (λ m. leads doc n m && list_any (λ t. leads doc t n) (called_targets doc m)) (candidates doc) h in
+      let t = any_found (λ t. leads doc t n) (called_targets doc m.at) (second_so _ _ m.passes) in (
+        m.at,
+        t.at,
+        (needed_by_short_walks doc plain n m.at c).0 (first_so _ _ m.passes),
+        t.among,
+        (needed_by_short_walks doc plain t.at n (stay doc plain is_called m.at t.at m.among t.among)).0 t.passes,
+      )),
+  λ w. (let m : Node = w.0 in let t : Node = w.1 in
+      let among = reached_in (needed_targets doc) (candidates doc) (n ∷ []) (stay doc plain _) (only_in doc n c) m w.2 in
+      let back = any_from (λ t. leads doc t n) (called_targets doc m) t w.3
+      ((needed_by_short_walks doc plain t n (stay doc plain is_called m t among w.3)).1 w.4) in
+      any_from (λ m. leads doc n m && list_any (λ t. leads doc t n) (called_targets doc m)) (candidates doc) m among
+      (both_so _ _ ((needed_by_short_walks doc plain n m c).1 w.2) back)),
+)
 
 pub cycles_by_short_walks : CyclesByShortWalks
 cycles_by_short_walks doc plain n c =
@@ -146,10 +152,11 @@ passed_by_short_walks doc plain n m c =
 pub productions_by_short_walks : ProductionsByShortWalks
 unfolding is_production
 productions_by_short_walks doc plain n among =
-    let c = node_is_candidate doc n among in
-    (λ h. (let m = any_found (λ m. is_producer doc m && passes doc n m) (candidates doc) h in
-        (m.at, (passed_by_short_walks doc plain n m.at c).0 (second_so _ _ m.passes), first_so _ _ m.passes)),
-     λ w. (let m : Node = w.0 in
-        let here = reached_in (passed_on doc) (candidates doc) (n ∷ []) (passed_stay doc plain) (only_in doc n c) m w.1 in
-        any_from (λ m. is_producer doc m && passes doc n m) (candidates doc) m here
-        (both_so _ _ w.2 ((passed_by_short_walks doc plain n m c).1 w.1))))
+    let c = node_is_candidate doc n among in (
+      λ h. (let m = any_found (λ m. is_producer doc m && passes doc n m) (candidates doc) h in
+          (m.at, (passed_by_short_walks doc plain n m.at c).0 (second_so _ _ m.passes), first_so _ _ m.passes)),
+      λ w. (let m : Node = w.0 in
+          let here = reached_in (passed_on doc) (candidates doc) (n ∷ []) (passed_stay doc plain) (only_in doc n c) m w.1 in
+          any_from (λ m. is_producer doc m && passes doc n m) (candidates doc) m here
+          (both_so _ _ w.2 ((passed_by_short_walks doc plain n m c).1 w.1))),
+    )

@@ -39,10 +39,10 @@ allowed_at doc s p true none stands among e = e
 allowed_at doc s p false none stands among e =
     let bad : Violation = at_line rule.BadType s (shape_text p.shape) in
     let here = in_map (λ (p : Placed). at_line rule.BadType s (shape_text p.shape)) (filter (λ (p : Placed). not p.allowed) (types_of s.item)) p
-        (in_filter (λ (p : Placed). not p.allowed) (types_of s.item) p among (ap not e)) in
+    (in_filter (λ (p : Placed). not p.allowed) (types_of s.item) p among (ap not e)) in
     let listed = in_flat_map (λ s. bad_type doc s ++ optional_of_inject doc s ++ type_mismatch doc s) (statements doc) s bad stands
-        (Contains-append_left (bad_type doc s ++ optional_of_inject doc s) (type_mismatch doc s) bad
-        (Contains-append_left (bad_type doc s) (optional_of_inject doc s) bad here)) in
+    (Contains-append_left (bad_type doc s ++ optional_of_inject doc s) (type_mismatch doc s) bad
+    (Contains-append_left (bad_type doc s) (optional_of_inject doc s) bad here)) in
     let P : List Violation → Type 0 = λ vs. Contains vs bad in
     absurd (none_in bad (subst P none listed))
 

@@ -19,3 +19,4 @@ pub mod SizeLemmas
 pub mod OnceLemmas
 pub mod NodesOnce
 pub mod GroupTypes
+pub mod AcceptedGraph

@@ -182,9 +182,11 @@ in_reverse xs x c =
     let lt : c.0 < length xs = c.1 in
     let place : ℕ = length xs - 1 - c.0 in
     let within : length xs - 1 - c.0 < length xs = omega arith in
-    let back : length xs - 1 - (length xs - 1 - c.0) ≡ c.0 = omega arith in
-    (length xs - 1 - c.0, omega (arith, length-reverse xs),
-     get_or-reverse xs (length xs - 1 - c.0) x within ∙ ap (λ k. get_or xs k x) back ∙ c.2)
+    let back : length xs - 1 - (length xs - 1 - c.0) ≡ c.0 = omega arith in (
+      length xs - 1 - c.0,
+      omega (arith, length-reverse xs),
+      get_or-reverse xs (length xs - 1 - c.0) x within ∙ ap (λ k. get_or xs k x) back ∙ c.2,
+    )
 
 pub in_range : (n c : ℕ) → c < n → Contains (range_with_len 0 n) c
 in_range n c lt = (c, omega (arith, length-range_with_len 0 n), get_or-range_with_len 0 n c c lt ∙ (let e : 0 + c ≡ c = omega arith in e))

@@ -169,14 +169,24 @@ multi_opened : (doc : Doc) (c : ℕ) (k : Key) (b : Bool) (os : List Owned) → 
 unfolding is_declared
 multi_opened doc c k true os declares contributes is_found h =
     let w = chain_acts doc c is_declaration (plain_key k) declares in
-    h (record { at = w.at; up = w.up; bind = w.bind; among = w.among
-              ; acts = acts_as doc w.at is_declaration is_group (plain_key k) w.bind (or_right _ _) w.acts })
+    h (record {
+      at = w.at;
+      up = w.up;
+      bind = w.bind;
+      among = w.among;
+      acts = acts_as doc w.at is_declaration is_group (plain_key k) w.bind (or_right _ _) w.acts;
+    })
 multi_opened doc c k false [] declares contributes is_found h = nothing_fits doc c k
 multi_opened doc c k false (o ∷ os) declares contributes is_found h =
     let P : List Owned → Type 0 = λ os. Contains os o in
     let w = contributed doc c k o (subst P (sym contributes) (in_front o os)) in
-    h (record { at = w.at; up = w.up; bind = w.bind; among = w.among
-              ; acts = acts_as doc w.at is_contribution is_group (plain_key k) w.bind (or_left _ _) w.acts })
+    h (record {
+      at = w.at;
+      up = w.up;
+      bind = w.bind;
+      among = w.among;
+      acts = acts_as doc w.at is_contribution is_group (plain_key k) w.bind (or_left _ _) w.acts;
+    })
 
 acts_kind : (doc : Doc) (o : ℕ) (p : BindKind → Bool) (k : Key) (b : Bind) → acts_in doc o p k b ≡ true → p b.kind ≡ true
 acts_kind doc o p k b h = first_so _ _ (first_so _ _ h)

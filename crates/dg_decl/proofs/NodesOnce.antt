@@ -64,9 +64,10 @@ from_tell doc index block (x ∷ xs) s t c d e =
 
 from_once : (doc : Doc) (index : ℕ) (block : Option ℕ) (items : List Item) → Once (statements_from doc index block items)
 from_once doc index block [] = tt
-from_once doc index block (x ∷ xs) =
-    (λ c. (let le : suc index ≤ index = from_least doc (suc index) (open_behind block index x) xs _ c in absurd (omega arith)),
-     from_once doc (suc index) (open_behind block index x) xs)
+from_once doc index block (x ∷ xs) = (
+  λ c. (let le : suc index ≤ index = from_least doc (suc index) (open_behind block index x) xs _ c in absurd (omega arith)),
+  from_once doc (suc index) (open_behind block index x) xs,
+)
 
 -- statements are told apart by their indices
 indices_tell : (doc : Doc) → TellsApart (λ (s : Statement). s.index) (statements doc)
@@ -114,10 +115,10 @@ unfolding exposed_of
 once_exposed doc c =
     once_flat_map (exposed_at doc) (enumerate_from 0 (deps_of doc c)) (once_numbered 0 (deps_of doc c))
     (λ d among. once_filter_map (exposed_as doc d.0) (entries_of doc d.1) (once_entries doc d.1)
-      (λ i j x a b e f. sym (exposed_so doc d.0 i x e).1 ∙ (exposed_so doc d.0 j x f).1))
+    (λ i j x a b e f. sym (exposed_so doc d.0 i x e).1 ∙ (exposed_so doc d.0 j x f).1))
     (λ d f x a b l r. (let i = out_filter_map (exposed_as doc d.0) (entries_of doc d.1) x l in
-      let j = out_filter_map (exposed_as doc f.0) (entries_of doc f.1) x r in
-      numbers_tell 0 (deps_of doc c) d f a b (sym (exposed_so doc d.0 i.0 x i.2).0 ∙ (exposed_so doc f.0 j.0 x j.2).0)))
+    let j = out_filter_map (exposed_as doc f.0) (entries_of doc f.1) x r in
+    numbers_tell 0 (deps_of doc c) d f a b (sym (exposed_so doc d.0 i.0 x i.2).0 ∙ (exposed_so doc f.0 j.0 x j.2).0)))
 
 -- the key of an exposed entry is that of its item
 exposed_has_key : (doc : Doc) (c : ℕ) (x : Exposed) → Contains (exposed_of doc c) x → exposed_key doc x.entry ≡ Some x.key
@@ -257,9 +258,10 @@ not_both false h e = false≢true e
 
 once_by_forms : (cs : List Core) → are_apart cs ≡ true → Once cs
 once_by_forms [] h = tt
-once_by_forms (c ∷ cs) h =
-    (λ among. not_both _ (left_so _ _ h) (any_from (λ d. form_of c == form_of d) cs c among (eq-eqb (form_of c) (form_of c) refl)),
-     once_by_forms cs (second_so _ _ h))
+once_by_forms (c ∷ cs) h = (
+  λ among. not_both _ (left_so _ _ h) (any_from (λ d. form_of c == form_of d) cs c among (eq-eqb (form_of c) (form_of c) refl)),
+  once_by_forms cs (second_so _ _ h),
+)
 
 once_forms_of_core : (c : Core) → Once (forms_of_core c)
 once_forms_of_core (core.One b) = tt
@@ -299,7 +301,7 @@ once_own_groups doc class s =
     once_flat_map (λ b. groups_of doc class s b.kind b.key) (filter (here s) (bindings doc)) (once_filter (here s) (bindings doc) (once_bindings doc))
     (λ b among. once_groups_of doc class s b.kind b.key)
     (λ b d k l r f g. (let bi = out_filter (here s) (bindings doc) b l in let di = out_filter (here s) (bindings doc) d r in
-      items_tell doc b d bi.0 di.0 (eqb-true b.item s.index bi.1 ∙ sym (eqb-true d.item s.index di.1))))
+    items_tell doc b d bi.0 di.0 (eqb-true b.item s.index bi.1 ∙ sym (eqb-true d.item s.index di.1))))
 
 -- ---- the kinds on a statement
 
@@ -313,12 +315,12 @@ once_bounds : (doc : Doc) (class : ℕ) (s : Statement) → Once (bounds_at doc 
 once_bounds doc class s =
     once_append (own_binding s) (own_argument doc class s ++ own_exposed doc class s) (once_own s.index s.line s.block s.item)
     (once_append (own_argument doc class s) (own_exposed doc class s) (once_argument doc class s) (once_own_exposed doc class s)
-      (λ b l r. apart_by sort_of b 1 2 (argument_so doc class s b l).1 (exposed_stand doc class s b r).1 refl))
+    (λ b l r. apart_by sort_of b 1 2 (argument_so doc class s b l).1 (exposed_stand doc class s b r).1 refl))
     (λ b l r. (let first = (own_so doc class s.index s.line s.block s.item b l).1 in
-      elim (Contains-append_cases (own_argument doc class s) (own_exposed doc class s) b r) [
-        | inl a ↦ apart_by sort_of b 0 1 first (argument_so doc class s b a).1 refl
-        | inr x ↦ apart_by sort_of b 0 2 first (exposed_stand doc class s b x).1 refl
-      ]))
+    elim (Contains-append_cases (own_argument doc class s) (own_exposed doc class s) b r) [
+      | inl a ↦ apart_by sort_of b 0 1 first (argument_so doc class s b a).1 refl
+      | inr x ↦ apart_by sort_of b 0 2 first (exposed_stand doc class s b x).1 refl
+    ]))
 
 bound_stand : (doc : Doc) (class : ℕ) (s : Statement) (b : BindRef) → Contains (bounds_at doc class s) b → stand_bound doc class b ≡ Some s.index
 bound_stand doc class s b c =
@@ -349,14 +351,14 @@ once_kinds_at doc class s =
     once_append (map node.Bound (bounds_at doc class s)) (own_entry doc class s ++ own_groups doc class s)
     (once_map node.Bound (bounds_at doc class s) (once_bounds doc class s) (λ b d l r e. ap (bound_in b) e))
     (once_append (own_entry doc class s) (own_groups doc class s)
-      (once_if (list_any (λ i. i == s.index) (entries_of doc class)) (node.EntryOf s.index ∷ []) (once_one (node.EntryOf s.index)))
-      (once_own_groups doc class s)
-      (λ k l r. apart_by sort_of_kind k 1 2 (entry_so doc class s k l).1 (own_groups_so doc class s k r).1 refl))
+    (once_if (list_any (λ i. i == s.index) (entries_of doc class)) (node.EntryOf s.index ∷ []) (once_one (node.EntryOf s.index)))
+    (once_own_groups doc class s)
+    (λ k l r. apart_by sort_of_kind k 1 2 (entry_so doc class s k l).1 (own_groups_so doc class s k r).1 refl))
     (λ k l r. (let b = out_map node.Bound (bounds_at doc class s) k l in let first : sort_of_kind k ≡ 0 = ap sort_of_kind (sym b.2) in
-      elim (Contains-append_cases (own_entry doc class s) (own_groups doc class s) k r) [
-        | inl e ↦ apart_by sort_of_kind k 0 1 first (entry_so doc class s k e).1 refl
-        | inr g ↦ apart_by sort_of_kind k 0 2 first (own_groups_so doc class s k g).1 refl
-      ]))
+    elim (Contains-append_cases (own_entry doc class s) (own_groups doc class s) k r) [
+      | inl e ↦ apart_by sort_of_kind k 0 1 first (entry_so doc class s k e).1 refl
+      | inr g ↦ apart_by sort_of_kind k 0 2 first (own_groups_so doc class s k g).1 refl
+    ]))
 
 kind_stand : (doc : Doc) (class : ℕ) (s : Statement) (k : NodeKind) → Contains (kinds_at doc class s) k → stand doc class k ≡ Some s.index
 kind_stand doc class s k c =
@@ -379,10 +381,10 @@ once_kinds doc class =
     once_append (default_kind doc class) (flat_map (kinds_at doc class) (statements doc))
     (once_if (has_no_header doc class) (node.Bound binding.Default ∷ []) (once_one (node.Bound binding.Default)))
     (once_flat_map (kinds_at doc class) (statements doc) (once_statements doc) (λ s among. once_kinds_at doc class s)
-      (λ s t k a b l r. indices_tell doc s t a b (same_Some s.index t.index (sym (kind_stand doc class s k l) ∙ kind_stand doc class t k r))))
+    (λ s t k a b l r. indices_tell doc s t a b (same_Some s.index t.index (sym (kind_stand doc class s k l) ∙ kind_stand doc class t k r))))
     (λ k l r. (let e = the_one k (node.Bound binding.Default) (out_if (has_no_header doc class) (node.Bound binding.Default ∷ []) k l).1 in
-      let s = out_flat_map (kinds_at doc class) (statements doc) k r in
-      none-some s.0.index (ap (stand doc class) e ∙ kind_stand doc class s.0 k s.2)))
+    let s = out_flat_map (kinds_at doc class) (statements doc) k r in
+    none-some s.0.index (ap (stand doc class) e ∙ kind_stand doc class s.0 k s.2)))
 
 once_candidates : (doc : Doc) → Once (candidates doc)
 unfolding candidates
@@ -390,7 +392,7 @@ once_candidates doc =
     once_flat_map (λ c. map (node_of c) (kinds_of doc c)) (range_with_len 0 (class_count doc)) (once_range 0 (class_count doc))
     (λ c among. once_map (node_of c) (kinds_of doc c) (once_kinds doc c) (λ j k a b e. ap (λ (n : Node). n.kind) e))
     (λ c d n a b l r. (let j = out_map (node_of c) (kinds_of doc c) n l in let k = out_map (node_of d) (kinds_of doc d) n r in
-      ap (λ (n : Node). n.class) (j.2 ∙ sym k.2)))
+    ap (λ (n : Node). n.class) (j.2 ∙ sym k.2)))
 
 pub once_nodes : (doc : Doc) → Once (nodes doc)
 unfolding nodes

@@ -23,12 +23,13 @@ once_if false xs a = tt
 
 pub once_append : {A : Type 0} (xs ys : List A) → Once xs → Once ys → ((x : A) → Contains xs x → Contains ys x → ⊥) → Once (xs ++ ys)
 once_append [] ys a b apart = b
-once_append (x ∷ xs) ys a b apart =
-    (λ c. elim (Contains-append_cases xs ys x c) [
-       | inl l ↦ a.0 l
-       | inr r ↦ apart x (in_front x xs) r
-     ],
-     once_append xs ys a.1 b (λ z l r. apart z (in_rest z x xs l) r))
+once_append (x ∷ xs) ys a b apart = (
+  λ c. elim (Contains-append_cases xs ys x c) [
+    | inl l ↦ a.0 l
+    | inr r ↦ apart x (in_front x xs) r
+  ],
+  once_append xs ys a.1 b (λ z l r. apart z (in_rest z x xs l) r),
+)
 
 once_kept : {A : Type 0} (b : Bool) (x : A) (xs : List A) → (Contains xs x → ⊥) → Once xs → Once (cond b (x ∷ xs) xs)
 once_kept true x xs new a = (new, a)
@@ -44,11 +45,12 @@ TellsApart {A} f xs = (x z : A) → Contains xs x → Contains xs z → f x ≡ 
 
 pub once_map : {A B : Type 0} (f : A → B) (xs : List A) → Once xs → TellsApart f xs → Once (map f xs)
 once_map f [] a apart = tt
-once_map {A} f (x ∷ xs) a apart =
-    (λ c. (let o = out_map f xs (f x) c in
-       let P : A → Type 0 = Contains xs in
-       a.0 (subst P (apart o.0 x (in_rest o.0 x xs o.1) (in_front x xs) o.2) o.1)),
-     once_map f xs a.1 (λ y z c d e. apart y z (in_rest y x xs c) (in_rest z x xs d) e))
+once_map {A} f (x ∷ xs) a apart = (
+  λ c. (let o = out_map f xs (f x) c in
+      let P : A → Type 0 = Contains xs in
+      a.0 (subst P (apart o.0 x (in_rest o.0 x xs o.1) (in_front x xs) o.2) o.1)),
+  once_map f xs a.1 (λ y z c d e. apart y z (in_rest y x xs c) (in_rest z x xs d) e),
+)
 
 pub once_flat_map : {A B : Type 0} (f : A → List B) (xs : List A) → Once xs → ((x : A) → Contains xs x → Once (f x)) → ((x z : A) (y : B) → Contains xs x → Contains xs z → Contains (f x) y → Contains (f z) y → x ≡ z) → Once (flat_map f xs)
 once_flat_map f [] a each apart = tt
@@ -56,8 +58,8 @@ once_flat_map {A} f (x ∷ xs) a each apart =
     once_append (f x) (flat_map f xs) (each x (in_front x xs))
     (once_flat_map f xs a.1 (λ z c. each z (in_rest z x xs c)) (λ w z y c d. apart w z y (in_rest w x xs c) (in_rest z x xs d)))
     (λ y l r. (let o = out_flat_map f xs y r in
-       let P : A → Type 0 = Contains xs in
-       a.0 (subst P (sym (apart x o.0 y (in_front x xs) (in_rest o.0 x xs o.1) l o.2)) o.1)))
+    let P : A → Type 0 = Contains xs in
+    a.0 (subst P (sym (apart x o.0 y (in_front x xs) (in_rest o.0 x xs o.1) l o.2)) o.1)))
 
 once_given : {B : Type 0} (o : Option B) (ys : List B) → ((y : B) → o ≡ Some y → Contains ys y → ⊥) → Once ys → Once (cons_option o ys)
 once_given None ys new a = a
@@ -68,8 +70,8 @@ once_filter_map f [] a apart = tt
 once_filter_map {A} f (x ∷ xs) a apart =
     once_given (f x) (filter_map f xs)
     (λ y e c. (let o = out_filter_map f xs y c in
-       let P : A → Type 0 = Contains xs in
-       a.0 (subst P (sym (apart x o.0 y (in_front x xs) (in_rest o.0 x xs o.1) e o.2)) o.1)))
+    let P : A → Type 0 = Contains xs in
+    a.0 (subst P (sym (apart x o.0 y (in_front x xs) (in_rest o.0 x xs o.1) e o.2)) o.1)))
     (once_filter_map f xs a.1 (λ w z y c d. apart w z y (in_rest w x xs c) (in_rest z x xs d)))
 
 -- ---- numbers in order
@@ -124,9 +126,10 @@ not_true false h = refl
 
 others_differ : {A : Type 0} (same : A → A → Bool) → Decides same → (x : A) (xs : List A) → (Contains xs x → ⊥) → AllByRecursion (λ y. same x y ≡ false) xs
 others_differ same law x [] new = tt
-others_differ same law x (y ∷ ys) new =
-    (not_true (same x y) (λ h. new (0, omega arith, sym ((law x y).0 h))),
-     others_differ same law x ys (λ c. new (in_rest x y ys c)))
+others_differ same law x (y ∷ ys) new = (
+  not_true (same x y) (λ h. new (0, omega arith, sym ((law x y).0 h))),
+  others_differ same law x ys (λ c. new (in_rest x y ys c)),
+)
 
 pub distinct_from_once : {A : Type 0} (same : A → A → Bool) → Decides same → (xs : List A) → Once xs → IsDistinct same xs
 unfolding IsDistinct

@@ -153,7 +153,7 @@ ranked doc (suc most) n none =
     let D : Node → ℕ = depth_within doc most in
     let ts : List Node = needed_targets doc n in
     let below : (t : Node) → Contains (needed_targets doc n) t → IsRank (needed_targets doc) t (depth_within doc most t) =
-        λ t h. ranked doc most t (λ b w. none b (t, h, w)) in
+    λ t h. ranked doc most t (λ b w. none b (t, h, w)) in
     record {
       walk = elim (is_start_or_one 0 (map (depth_within doc most) (needed_targets doc n))) [
         | inl e ↦ (0, n, refl, omega (arith, e))
@@ -169,7 +169,7 @@ ranked doc (suc most) n none =
     longest_at (suc edges) last w below =
         let one : edges + 1 ≤ depth_within doc most w.0 = (below w.0 w.1).longest edges last w.2 in
         let all : depth_within doc most w.0 ≤ fold max 0 (map (depth_within doc most) (needed_targets doc n)) =
-            at_least_each 0 (map (depth_within doc most) (needed_targets doc n)) (depth_within doc most w.0) (in_map (depth_within doc most) (needed_targets doc n) w.0 w.1) in
+        at_least_each 0 (map (depth_within doc most) (needed_targets doc n)) (depth_within doc most w.0) (in_map (depth_within doc most) (needed_targets doc n) w.0 w.1) in
         omega arith
 
 pub depths_are_longest_walks : DepthsAreLongestWalks
@@ -183,5 +183,5 @@ pub weights_add_up : WeightsAddUp
 unfolding weight
 weights_add_up doc plain none =
     let one = HasOneWeight-from_placed (needed_targets doc) (size doc) (is_shared doc) (Contains (nodes doc)) (length (candidates doc)) (placed doc plain)
-        (λ a is c. no_closed_walk doc none a is c) in
+    (λ a is c. no_closed_walk doc none a is c) in
     record { add_up = λ n is. one.adds_up n is; only = λ other adds n is. one.only other adds n is }

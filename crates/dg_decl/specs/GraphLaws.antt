@@ -1,5 +1,5 @@
 -- The laws of the graph of a document.
-use Rattle.std.specs.Prelude.{◌≡◌, ◌↔◌, ℕ, IsTrue, Bool, true, false, ◌||◌, [], Contains}
+use Rattle.std.specs.Prelude.{◌≡◌, ◌↔◌, ℕ, IsTrue, Bool, true, false, ◌||◌, [], filter, Contains}
 use Rattle.dg_types.specs.declared.key.Core.{Core}
 use Rattle.dg_types.specs.declared.key.Core.TheVariants as core
 use Rattle.dg_decl.specs.declared.document.Doc.{Doc}
@@ -7,6 +7,7 @@ use Rattle.dg_decl.specs.declared.binding.Bind.{Bind}
 use Rattle.dg_decl.specs.declared.graph.Node.{Node}
 use Rattle.dg_decl.specs.Lookup.{bindings, is_contribution, is_declaration}
 use Rattle.dg_decl.specs.Stages.Types.{types_stage}
+use Rattle.dg_decl.specs.Stages.Bindings.{bindings_stage}
 use Rattle.dg_decl.specs.Graph.{targets, entry_nodes, candidates, nodes, AreNodes, OnCycle, is_on_cycle, OnCall, is_on_call, needed_targets}
 use Rattle.dg_decl.specs.Sizes.{IsProduction, is_production, IsDepth, depth, size, is_shared, weight}
 use Rattle.dg_num.specs.Weights.{AddsUp}
@@ -36,6 +37,12 @@ TargetsAreCandidates =
 abbrev pub NodesAreTheReachableOnes : Type 0
 NodesAreTheReachableOnes = (doc : Doc) → OptionalsAreNoGroups doc → AreNodes doc (nodes doc)
 
+-- no other list of candidates, in their order, is that of the reachable nodes
+abbrev pub OneListOfNodes : Type 0
+OneListOfNodes =
+    (doc : Doc) → OptionalsAreNoGroups doc → (is_kept : Node → Bool)
+    → AreNodes doc (filter is_kept (candidates doc)) → filter is_kept (candidates doc) ≡ nodes doc
+
 -- of a node, no walk of direct or called edges is too long to be found
 abbrev pub CyclesByShortWalks : Type 0
 CyclesByShortWalks =
@@ -51,6 +58,10 @@ ProductionsByShortWalks =
 -- no node lies on a closed walk of direct edges, nor on one of direct and called edges with a called one
 abbrev pub HasNoCycle : Doc → Type 0
 HasNoCycle doc = (n : Node) → Contains (nodes doc) n → (OnCycle doc n → ⊥) × (OnCall doc n → ⊥)
+
+-- where the stages of types and of bindings find nothing, there is no cycle
+abbrev pub StagesLeaveNoCycle : Type 0
+StagesLeaveNoCycle = (doc : Doc) → types_stage doc ≡ [] → bindings_stage doc ≡ [] → HasNoCycle doc
 
 -- without cycles the depth of a node is the number of nodes on its longest walk
 abbrev pub DepthsAreLongestWalks : Type 0
