@@ -1,15 +1,13 @@
 -- Where the stages find nothing, the graph has no cycle; and the nodes in the order of candidates are one list.
-use Rattle.std.proofs.Common.{◌≡◌, ℕ, Bool, true, false, cond, List, [], ◌∷◌, ◌++◌, filter, flat_map, Contains, None, refl, sym, ap, subst, ◌∙◌}
-use Rattle.std.proofs.lemmas.Bool.{false≢true, true≢false}
-use Rattle.std.proofs.lemmas.List.Elements.{Contains-append_right}
+use Rattle.std.proofs.Common.{◌≡◌, Bool, true, false, cond, List, [], ◌∷◌, ◌++◌, filter, flat_map, Contains, None, refl, sym, subst, ◌∙◌}
+use Rattle.std.proofs.lemmas.Bool.{false≢true}
 use Rattle.dg_decl.specs.declared.document.Doc.{Doc}
 use Rattle.dg_decl.specs.declared.graph.Node.{Node}
 use Rattle.dg_decl.specs.declared.violation.Violation.{Violation}
 use Rattle.dg_decl.specs.declared.violation.Rule.TheVariants as rule
-use Rattle.dg_decl.specs.Graph.{candidates, is_reachable, nodes, AreNodes, IsReachable, is_on_cycle, is_on_call, OnCycle, OnCall}
-use Rattle.dg_decl.specs.Stages.Types.{types_stage}
+use Rattle.dg_decl.specs.Graph.{candidates, is_reachable, nodes, is_on_cycle, is_on_call}
 use Rattle.dg_decl.specs.Stages.Bindings.{missing_binding, duplicate_bindings, incompatibly_scoped_bindings, incompatibly_scoped_member, map_keys, depends_on_production, optional_production, at_node, where_true, dependency_cycle, call_cycle, bindings_at, bindings_stage}
-use Rattle.dg_decl.specs.GraphLaws.{OptionalsAreNoGroups, OneListOfNodes, HasNoCycle, StagesLeaveNoCycle}
+use Rattle.dg_decl.specs.GraphLaws.{OneListOfNodes, StagesLeaveNoCycle}
 use Rattle.dg_decl.proofs.NodeWalks.{in_rest}
 use Rattle.dg_decl.proofs.MemberLemmas.{in_filter, out_filter, in_flat_map, none_in, in_front}
 use Rattle.dg_decl.proofs.GraphLemmas.{reachable_by_short_walks, cycles_by_short_walks}

@@ -13,7 +13,7 @@ use Rattle.dg_types.specs.declared.key.Request.{Request}
 use Rattle.dg_types.specs.declared.shape.Shape.{Shape, out-Shape}
 use Rattle.dg_types.specs.declared.shape.Shape.TheOpen.{Shape-F}
 use Rattle.dg_types.specs.declared.shape.TypeUse.{TypeUse}
-use Rattle.dg_types.specs.Requests.{Layer, Held, Asked, base_at, base_of, kind_of, held_as, value_at, value_of, provided_at, provided_in, inside_at, inside_of, one_of, set_of, optional_of, map_of, core_at, core_of, asked_as, deferred_at, deferred_of, plain_at, plain_of, produced_of, producing_at, producing_of, first_of_two, asked_of, request_of}
+use Rattle.dg_types.specs.Requests.{Layer, Held, Asked, base_at, base_of, kind_of, held_as, value_at, value_of, provided_at, inside_at, inside_of, one_of, set_of, map_of, core_at, core_of, asked_as, deferred_at, plain_at, plain_of, produced_of, producing_at, producing_of, first_of_two, asked_of, request_of}
 use Rattle.dg_decl.proofs.MemberLemmas.{out_option_map}
 
 abbrev pub is_set_form : Inner → Bool

@@ -1,25 +1,23 @@
 -- Walks of the graph of a document stay among its candidates, and so short walks are enough.
-use Rattle.std.proofs.Common.{◌≡◌, ◌↔◌, inl, inr, ℕ, zero, suc, ◌<◌, Bool, true, false, cond, IsTrue, ◌&&◌, List, [], ◌∷◌, ◌++◌, length, map, filter, filter_map, position, slice_get, Contains, Option, Some, None, option_map, option_and_then, refl, sym, ap, subst, ◌∙◌, arith}
+use Rattle.std.proofs.Common.{◌≡◌, ◌↔◌, inl, inr, ℕ, suc, Bool, true, false, cond, IsTrue, ◌&&◌, List, [], ◌∷◌, length, filter, filter_map, position, slice_get, Contains, Option, Some, None, ap, subst, ◌∙◌}
 use Rattle.std.specs.List.{list_any, enumerate_from}
 use Rattle.std.specs.Option.{option_map_or}
-use Rattle.std.proofs.lemmas.Option.{none-some, same_Some}
+use Rattle.std.proofs.lemmas.Option.{none-some}
 use Rattle.std.proofs.lemmas.List.Elements.{Contains-append_cases}
-use Rattle.dg_lex.specs.Bytes.{Bytes}
 use Rattle.dg_decl.specs.declared.document.Doc.{Doc}
-use Rattle.dg_decl.specs.declared.binding.BindRef.{BindRef}
 use Rattle.dg_decl.specs.declared.binding.BindRef.TheVariants as binding
 use Rattle.dg_decl.specs.declared.graph.Node.{Node}
 use Rattle.dg_decl.specs.declared.graph.NodeKind.{NodeKind}
 use Rattle.dg_decl.specs.declared.graph.NodeKind.TheVariants as node
 use Rattle.dg_decl.specs.declared.graph.EdgeKind.{EdgeKind}
 use Rattle.dg_decl.specs.declared.graph.EdgeKind.TheVariants as edge
-use Rattle.dg_decl.specs.Walks.{IsReached, root, step, is_within}
+use Rattle.dg_decl.specs.Walks.{IsReached, step, is_within}
 use Rattle.dg_decl.specs.Graph.{same_node, node_of, Dependency, deps, target, targets, entry_nodes, IsReachable, candidates, is_reachable, nodes, EdgeTo, edge_kind, edge_to, needed_edges, is_param, is_called_mode, called_at, called_edge, calls_of, edges, inner_of, targets_by, is_direct, is_called, direct_targets, called_targets, needed_targets, OnCycle, OnCall, is_on_cycle, is_on_call}
-use Rattle.dg_decl.specs.Sizes.{is_producer, is_unscoped_binds, item_of_node, is_provider_form, passed_on, IsProduction, is_production}
+use Rattle.dg_decl.specs.Sizes.{is_producer, is_unscoped_binds, item_of_node, is_provider_form, passed_on, is_production}
 use Rattle.dg_decl.specs.GraphLaws.{OptionalsAreNoGroups, CyclesByShortWalks, ProductionsByShortWalks}
 use Rattle.dg_decl.proofs.NodeWalks.{LeadsInto, AreIn, any_found, any_from, reached_in, walks_among}
 use Rattle.dg_decl.proofs.NodeEquality.{first_so, second_so, both_so, node_decides}
-use Rattle.dg_decl.proofs.MemberLemmas.{none_in, in_front, the_one, out_map, in_filter, out_filter, in_filter_map, out_filter_map, out_option_map, out_and_then, out_if, in_got, out_enumerate}
+use Rattle.dg_decl.proofs.MemberLemmas.{none_in, the_one, out_map, in_filter, out_filter, in_filter_map, out_filter_map, out_option_map, out_and_then, out_if, in_got, out_enumerate}
 use Rattle.dg_decl.proofs.NodeCandidates.{entries_are}
 use Rattle.dg_decl.proofs.NodeTargets.{targets_are}
 

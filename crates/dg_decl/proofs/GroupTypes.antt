@@ -1,9 +1,9 @@
 -- Where the stage of types finds nothing, no set or map has the type of an optional.
-use Rattle.std.proofs.Common.{◌≡◌, Bool, true, false, not, ◌||◌, List, [], ◌∷◌, ◌++◌, map, filter, flat_map, Contains, Option, Some, None, option_and_then, option_map, refl, sym, ap, subst, ◌∙◌}
+use Rattle.std.proofs.Common.{◌≡◌, Bool, true, false, not, ◌||◌, List, [], ◌∷◌, ◌++◌, filter, Contains, Option, Some, None, option_and_then, refl, sym, ap, subst, ◌∙◌}
 use Rattle.std.proofs.lemmas.Bool.{false≢true}
 use Rattle.std.proofs.lemmas.Option.{none-some, same_Some}
 use Rattle.std.proofs.lemmas.List.Elements.{Contains-append_left, Contains-append_right}
-use Rattle.dg_types.specs.declared.shape.Shape.{Shape, out-Shape}
+use Rattle.dg_types.specs.declared.shape.Shape.{out-Shape}
 use Rattle.dg_types.specs.declared.shape.Shape.TheOpen.{Shape-F}
 use Rattle.dg_types.specs.declared.shape.TypeUse.{TypeUse}
 use Rattle.dg_types.specs.declared.key.MapKind.{MapKind}
@@ -28,7 +28,7 @@ use Rattle.dg_decl.specs.Document.{Statement, statements}
 use Rattle.dg_decl.specs.Lookup.{Role, role_of, kind_of_mark, set_of, map_of, marked_core, key_of_role, binding_in, binding_of, bindings, is_contribution, is_declaration}
 use Rattle.dg_decl.specs.Stages.Components.{at_line}
 use Rattle.dg_decl.specs.Stages.Types.{Placed, placed, each_placed, is_base_use, is_base_set_at, is_base_set_use, is_multi_at, is_multi_use, is_result_use, types_of, bad_type, optional_of_inject, type_mismatch, types_stage}
-use Rattle.dg_decl.specs.GraphLaws.{is_optional_type, OptionalsAreNoGroups, TypesMakeNoGroupsOfOptionals}
+use Rattle.dg_decl.specs.GraphLaws.{is_optional_type, TypesMakeNoGroupsOfOptionals}
 use Rattle.dg_decl.proofs.MemberLemmas.{none_in, in_front, in_map, in_filter, in_flat_map, out_filter_map, out_option_map, out_and_then}
 
 -- ---- types are allowed in their places

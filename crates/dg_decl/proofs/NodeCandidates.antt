@@ -1,25 +1,12 @@
 -- Entry points are candidates, and what a candidate needs is one.
-use Rattle.std.proofs.Common.{◌≡◌, ◌⊎◌, inl, inr, ℕ, zero, suc, ◌+◌, ◌-◌, ◌<◌, ◌≤◌, Bool, true, false, cond, not, ◌&&◌, ◌||◌, ◌==◌, nat_lt, is_none, List, [], ◌∷◌, ◌++◌, length, map, filter, filter_map, flat_map, slice_get, find, Contains, Option, Some, None, option_map, option_and_then, option_to_list, refl, sym, ap, subst, ◌∙◌, arith}
+use Rattle.std.proofs.Common.{◌≡◌, inl, inr, ℕ, zero, suc, ◌+◌, ◌<◌, Bool, true, false, cond, ◌&&◌, ◌==◌, nat_lt, is_none, List, [], ◌∷◌, ◌++◌, length, map, filter, flat_map, slice_get, Contains, Option, Some, None, option_and_then, option_to_list, refl, sym, ap, subst, ◌∙◌, arith}
 use Rattle.std.specs.List.{list_any, range_with_len}
-use Rattle.std.specs.Option.{option_map_or}
-use Rattle.std.proofs.lemmas.Bool.{false≢true, or_cases, or_left, or_right, lt-ltb, eq-eqb}
+use Rattle.std.proofs.lemmas.Bool.{false≢true, lt-ltb, eq-eqb}
 use Rattle.std.proofs.lemmas.Option.{none-some, same_Some, slice_get_within}
 use Rattle.std.proofs.lemmas.List.Elements.{Contains-append_left, Contains-append_right, Contains-append_cases}
-use Rattle.dg_lex.specs.Bytes.{Bytes}
-use Rattle.dg_hilt.specs.Table.{HiltRow, hilt_classes}
-use Rattle.dg_types.specs.declared.shape.Qualifier.{Qualifier}
+use Rattle.dg_hilt.specs.Table.{hilt_classes}
 use Rattle.dg_types.specs.declared.key.Key.{Key}
-use Rattle.dg_types.specs.declared.key.Base.{Base}
-use Rattle.dg_types.specs.declared.key.Base.TheVariants as base
-use Rattle.dg_types.specs.declared.key.MapKind.{MapKind}
-use Rattle.dg_types.specs.declared.key.Inner.{Inner}
-use Rattle.dg_types.specs.declared.key.Inner.TheVariants as inner
-use Rattle.dg_types.specs.declared.key.Core.{Core}
-use Rattle.dg_types.specs.declared.key.Core.TheVariants as core
-use Rattle.dg_types.specs.declared.key.Request.{Request}
-use Rattle.dg_types.specs.Requests.{request_of}
 use Rattle.dg_types.specs.Equality.{same_key}
-use Rattle.dg_types.proofs.EqualityLemmas.{key_decides}
 use Rattle.dg_decl.specs.declared.document.Doc.{Doc}
 use Rattle.dg_decl.specs.declared.item.Item.{Item}
 use Rattle.dg_decl.specs.declared.item.Item.TheVariants as item
@@ -30,22 +17,18 @@ use Rattle.dg_decl.specs.declared.binding.BindKind.TheVariants as kind
 use Rattle.dg_decl.specs.declared.binding.BindRef.{BindRef}
 use Rattle.dg_decl.specs.declared.binding.BindRef.TheVariants as binding
 use Rattle.dg_decl.specs.declared.binding.Owned.{Owned}
-use Rattle.dg_decl.specs.declared.binding.Found.{Found}
-use Rattle.dg_decl.specs.declared.binding.Found.TheVariants as found
 use Rattle.dg_decl.specs.declared.graph.Node.{Node}
 use Rattle.dg_decl.specs.declared.graph.NodeKind.{NodeKind}
 use Rattle.dg_decl.specs.declared.graph.NodeKind.TheVariants as node
 use Rattle.dg_decl.specs.Document.{Statement, statements, statements_from, open_behind}
-use Rattle.dg_decl.specs.Names.{item_at, class_item_named}
-use Rattle.dg_decl.specs.Components.{hilt_count, hilt_row, class_count, class_named, parent_of, walk, ancestors, chain, root_first, carries, is_entry_of, entries_of, own_members, dependency_in, deps_of, exposed_of, header_of, default_bound, bound_of, is_installed}
-use Rattle.dg_decl.specs.Lookup.{Role, role_of, binding_in, binding_of, key_of_role, bindings, is_explicit, is_contribution, is_declaration, is_optional, acts_in, owned, has_key, explicit_default, explicit_exposed, is_header_of, bound_lines, explicit_argument, explicit_member, explicit_at, explicit, explicit_in_chain, plain_core, plain_key, inside_key, contributions_in, contributions, acts_in_chain, is_declared, is_optional_declared, opens_in, injected_scope, injected_with, injected_item, injected_base, injected, multi, found_of_core, find_without_explicit, found_among, find as find_key}
-use Rattle.dg_decl.specs.Graph.{node_of, Dependency, asked, of_param, of_params, of_entry, of_binding, of_contributions, of_inside, is_nothing, deps, node_found, target, targets, entry_nodes, forms_of_core, forms_of, optional_forms, own_binding, own_argument, own_exposed, own_entry, first_statement, stands_first, groups_of, own_groups, kinds_at, default_kind, kinds_of, candidates}
-use Rattle.dg_decl.specs.GraphLaws.{is_optional_type, OptionalsAreNoGroups, TargetsAreCandidates}
-use Rattle.dg_decl.proofs.NodeWalks.{any_found, any_from, in_rest}
-use Rattle.dg_decl.proofs.NodeEquality.{first_so, second_so}
+use Rattle.dg_decl.specs.Names.{item_at}
+use Rattle.dg_decl.specs.Components.{hilt_count, hilt_row, class_count, class_named, parent_of, walk, ancestors, chain, root_first, is_entry_of, entries_of, own_members, dependency_in, deps_of, exposed_of, header_of, default_bound, bound_of}
+use Rattle.dg_decl.specs.Lookup.{Role, role_of, binding_in, binding_of, key_of_role, bindings, is_explicit, is_contribution, acts_in, owned, has_key, explicit_default, explicit_exposed, is_header_of, explicit_argument, explicit_member, explicit_at, explicit, explicit_in_chain}
+use Rattle.dg_decl.specs.Graph.{node_of, entry_nodes, own_binding, own_argument, own_exposed, own_entry, own_groups, kinds_at, default_kind, kinds_of, candidates}
+use Rattle.dg_decl.proofs.NodeWalks.{any_from, in_rest}
+use Rattle.dg_decl.proofs.NodeEquality.{first_so}
 use Rattle.dg_decl.proofs.ComponentLemmas.{class_below, parent_below}
-use Rattle.dg_decl.proofs.MemberLemmas.{none_in, in_front, first_or_rest, the_one, in_map, out_map, in_filter, out_filter, in_filter_map, out_filter_map, in_flat_map, out_flat_map, in_option, out_option, out_option_map, out_and_then, out_list_of, out_if, in_if, in_got, out_reverse, in_reverse, in_range, out_range}
-use Rattle.dg_decl.proofs.AskedForms.{is_set_form, is_map_form, is_inside_form, is_asked, request_is_asked}
+use Rattle.dg_decl.proofs.MemberLemmas.{none_in, in_front, first_or_rest, in_map, out_map, out_filter, out_filter_map, in_flat_map, out_flat_map, out_option, out_option_map, out_and_then, out_if, in_if, out_reverse, in_range, out_range}
 
 -- ---- statements
 

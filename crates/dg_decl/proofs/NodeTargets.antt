@@ -1,10 +1,10 @@
 -- What a class finds is a candidate, and so what a candidate needs is one.
-use Rattle.std.proofs.Common.{◌≡◌, ◌⊎◌, inl, inr, ℕ, zero, suc, ◌+◌, ◌<◌, ◌≤◌, Bool, true, false, cond, not, ◌&&◌, ◌||◌, ◌==◌, nat_lt, is_none, List, [], ◌∷◌, ◌++◌, length, map, filter, filter_map, flat_map, slice_get, Contains, Option, Some, None, option_map, option_and_then, option_to_list, refl, sym, ap, subst, ◌∙◌, arith}
+use Rattle.std.proofs.Common.{◌≡◌, inl, inr, ℕ, ◌<◌, Bool, true, false, cond, not, ◌&&◌, ◌||◌, ◌==◌, nat_lt, is_none, List, [], ◌∷◌, ◌++◌, length, map, filter, filter_map, flat_map, slice_get, Contains, Option, Some, None, option_map, option_and_then, refl, sym, ap, subst, ◌∙◌, arith}
 use Rattle.std.specs.List.{list_any, list_all, range_with_len, find as find_first}
 use Rattle.std.specs.Option.{option_map_or}
 use Rattle.std.proofs.lemmas.Bool.{false≢true, true≢false, or_cases, or_left, or_right, eq-eqb}
 use Rattle.std.proofs.lemmas.Option.{none-some, same_Some}
-use Rattle.std.proofs.lemmas.List.Elements.{Contains-append_left, Contains-append_right, Contains-append_cases}
+use Rattle.std.proofs.lemmas.List.Elements.{Contains-append_right, Contains-append_cases}
 use Rattle.dg_lex.specs.Bytes.{Bytes}
 use Rattle.dg_types.specs.declared.shape.Qualifier.{Qualifier}
 use Rattle.dg_types.specs.declared.shape.TypeUse.{TypeUse}
@@ -12,7 +12,6 @@ use Rattle.dg_types.specs.declared.key.Key.{Key}
 use Rattle.dg_types.specs.declared.key.Base.{Base}
 use Rattle.dg_types.specs.declared.key.Base.TheVariants as base
 use Rattle.dg_types.specs.declared.key.MapKind.{MapKind}
-use Rattle.dg_types.specs.declared.key.Mode.{Mode}
 use Rattle.dg_types.specs.declared.key.Inner.{Inner}
 use Rattle.dg_types.specs.declared.key.Inner.TheVariants as inner
 use Rattle.dg_types.specs.declared.key.Core.{Core}
@@ -24,7 +23,6 @@ use Rattle.dg_types.proofs.EqualityLemmas.{key_decides}
 use Rattle.dg_decl.specs.declared.document.Doc.{Doc}
 use Rattle.dg_decl.specs.declared.item.Item.{Item}
 use Rattle.dg_decl.specs.declared.item.Item.TheVariants as item
-use Rattle.dg_decl.specs.declared.item.Param.{Param}
 use Rattle.dg_decl.specs.declared.binding.Bind.{Bind}
 use Rattle.dg_decl.specs.declared.binding.BindKind.{BindKind}
 use Rattle.dg_decl.specs.declared.binding.BindKind.TheVariants as kind
@@ -39,14 +37,14 @@ use Rattle.dg_decl.specs.declared.graph.NodeKind.TheVariants as node
 use Rattle.dg_decl.specs.Document.{Statement, statements}
 use Rattle.dg_decl.specs.Names.{item_at, class_item_named, params_of, result_of}
 use Rattle.dg_decl.specs.Components.{class_count, chain, root_first, carries, deps_of, entries_of, header_of, bound_of}
-use Rattle.dg_decl.specs.Lookup.{bindings, is_contribution, is_declaration, is_optional, acts_in, owned, explicit_in_chain, plain_core, plain_key, inside_core, inside_key, contributions_in, contributions, is_declared, is_optional_declared, opens_in, injected_scope, injected_with, injected_item, injected_base, injected, multi, found_of_core, find_without_explicit, found_among, find}
-use Rattle.dg_decl.specs.Graph.{node_of, mode_of_inner, inner_of, Dependency, asked, of_param, of_params, of_entry, of_binding, contribution_of, of_contributions, of_inside, is_nothing, deps, node_found, target, targets, entry_nodes, forms_of, optional_forms, own_binding, own_argument, own_exposed, own_entry, first_statement, stands_first, groups_of, own_groups, kinds_at, default_kind, kinds_of, candidates}
+use Rattle.dg_decl.specs.Lookup.{bindings, is_contribution, is_declaration, is_optional, acts_in, owned, explicit_in_chain, plain_key, inside_core, inside_key, contributions_in, contributions, is_declared, is_optional_declared, opens_in, injected_scope, injected_with, injected_item, injected_base, injected, multi, found_of_core, find_without_explicit, found_among, find}
+use Rattle.dg_decl.specs.Graph.{node_of, mode_of_inner, inner_of, Dependency, asked, of_param, of_params, of_entry, of_binding, contribution_of, of_contributions, of_inside, is_nothing, deps, node_found, target, targets, forms_of, optional_forms, own_binding, own_argument, own_exposed, own_entry, first_statement, stands_first, groups_of, own_groups, kinds_at, default_kind, kinds_of, candidates}
 use Rattle.dg_decl.specs.GraphLaws.{is_optional_type, OptionalsAreNoGroups, TargetsAreCandidates}
-use Rattle.dg_decl.proofs.NodeWalks.{any_found, any_from, in_rest}
+use Rattle.dg_decl.proofs.NodeWalks.{any_found, in_rest}
 use Rattle.dg_decl.proofs.NodeEquality.{first_so, second_so, both_so}
-use Rattle.dg_decl.proofs.MemberLemmas.{none_in, in_front, first_or_rest, the_one, in_map, out_map, in_filter, out_filter, in_flat_map, out_flat_map, in_option, out_option, out_option_map, out_and_then, out_filter_map, out_list_of, out_if, in_if, in_got, in_reverse, out_range}
+use Rattle.dg_decl.proofs.MemberLemmas.{none_in, in_front, first_or_rest, the_one, in_map, out_map, in_filter, out_filter, in_flat_map, out_flat_map, out_option, out_option_map, out_and_then, out_filter_map, out_list_of, out_if, in_got, in_reverse, out_range}
 use Rattle.dg_decl.proofs.AskedForms.{is_set_form, is_map_form, is_inside_form, is_asked, request_is_asked}
-use Rattle.dg_decl.proofs.NodeCandidates.{statement_at, BindsAs, stands_as, chain_small, above_small, dep_small, stands_is, own_is, entry_is, entries_are, is_made, contribution_made, member_is, IsOwned, chain_owned}
+use Rattle.dg_decl.proofs.NodeCandidates.{statement_at, stands_as, chain_small, above_small, dep_small, stands_is, own_is, entries_are, contribution_made, member_is, IsOwned, chain_owned}
 
 -- what a look-up leads to is a candidate
 abbrev Fits : Doc → ℕ → Key → Found → Type 0

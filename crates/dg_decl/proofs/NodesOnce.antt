@@ -1,5 +1,5 @@
 -- Each candidate, and so each node of a document, stands once in the list of these.
-use Rattle.std.proofs.Common.{◌≡◌, inl, inr, ℕ, zero, suc, ◌+◌, ◌<◌, ◌≤◌, Bool, true, false, cond, not, ◌&&◌, ◌==◌, nat_lt, is_none, List, [], ◌∷◌, ◌++◌, length, get_or, map, filter, filter_map, flat_map, position, slice_get, Contains, Option, Some, None, option_map, option_and_then, option_to_list, refl, sym, ap, subst, ◌∙◌, arith}
+use Rattle.std.proofs.Common.{◌≡◌, inl, inr, ℕ, suc, ◌≤◌, Bool, true, false, not, ◌&&◌, ◌==◌, nat_lt, is_none, List, [], ◌∷◌, ◌++◌, length, map, filter, filter_map, flat_map, position, slice_get, Contains, Option, Some, None, option_map, option_to_list, refl, sym, ap, ◌∙◌, arith}
 use Rattle.std.specs.List.{list_any, range_with_len, enumerate_from}
 use Rattle.std.specs.Option.{option_map_or}
 use Rattle.std.proofs.lemmas.Bool.{false≢true, eqb-true, eq-eqb}
@@ -27,11 +27,11 @@ use Rattle.dg_decl.specs.declared.graph.NodeKind.TheVariants as node
 use Rattle.dg_decl.specs.Document.{Statement, statements, statements_from, open_behind}
 use Rattle.dg_decl.specs.Components.{is_number, class_count, is_entry_of, entries_of, deps_of, exposed_key, exposed_as, exposed_of, header_of, bound_of}
 use Rattle.dg_decl.specs.Lookup.{binding_of, bindings, is_header_of, bound_lines}
-use Rattle.dg_decl.specs.Graph.{same_node, node_of, forms_of_core, forms_of, optional_forms, own_binding, own_argument, own_exposed, own_entry, first_statement, stands_first, groups_of, own_groups, kinds_at, default_kind, kinds_of, candidates, is_reachable, nodes, AreNodes}
-use Rattle.dg_decl.specs.GraphLaws.{OptionalsAreNoGroups, NodesAreTheReachableOnes}
-use Rattle.dg_decl.proofs.NodeWalks.{in_rest, any_from}
+use Rattle.dg_decl.specs.Graph.{same_node, node_of, forms_of_core, forms_of, optional_forms, own_binding, own_argument, own_exposed, own_entry, first_statement, stands_first, groups_of, own_groups, kinds_at, default_kind, kinds_of, candidates, is_reachable, nodes}
+use Rattle.dg_decl.specs.GraphLaws.{NodesAreTheReachableOnes}
+use Rattle.dg_decl.proofs.NodeWalks.{any_from}
 use Rattle.dg_decl.proofs.NodeEquality.{node_decides, first_so as left_so, second_so}
-use Rattle.dg_decl.proofs.MemberLemmas.{none_in, in_front, first_or_rest, the_one, out_map, out_filter, out_filter_map, out_flat_map, out_option, out_option_map, out_if}
+use Rattle.dg_decl.proofs.MemberLemmas.{none_in, first_or_rest, the_one, out_map, out_filter, out_filter_map, out_flat_map, out_option, out_option_map, out_if}
 use Rattle.dg_decl.proofs.OnceLemmas.{Once, once_one, once_option, once_if, once_append, once_filter, TellsApart, once_map, once_flat_map, once_filter_map, once_range, numbers_tell, once_numbered, distinct_from_once}
 use Rattle.dg_decl.proofs.NodeCandidates.{binding_item}
 use Rattle.dg_decl.proofs.GraphLemmas.{reached_nodes}

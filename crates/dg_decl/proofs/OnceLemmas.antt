@@ -1,5 +1,5 @@
 -- Lists in which each element stands once.
-use Rattle.std.proofs.Common.{◌≡◌, inl, inr, ℕ, zero, suc, ◌+◌, ◌<◌, ◌≤◌, Bool, true, false, cond, List, [], ◌∷◌, ◌++◌, map, filter, filter_map, flat_map, Contains, Option, Some, None, option_to_list, refl, sym, ap, subst, ◌∙◌, arith}
+use Rattle.std.proofs.Common.{◌≡◌, inl, inr, ℕ, zero, suc, ◌+◌, ◌≤◌, Bool, true, false, cond, List, [], ◌∷◌, ◌++◌, map, filter, filter_map, flat_map, Contains, Option, Some, None, option_to_list, refl, sym, ap, subst, ◌∙◌, arith}
 use Rattle.std.specs.List.{IsDistinct, AllByRecursion, cons_option, range_with_len, enumerate_from}
 use Rattle.std.proofs.lemmas.List.Elements.{Contains-append_cases}
 use Rattle.dg_decl.proofs.NodeWalks.{Decides, in_rest}

@@ -1,14 +1,14 @@
 -- Without cycles, walks come to an end: depths are those of longest walks, and weights add up.
-use Rattle.std.proofs.Common.{◌≡◌, ◌⊎◌, inl, inr, ℕ, zero, suc, ◌+◌, ◌<◌, ◌≤◌, max, Bool, true, false, cond, ◌||◌, List, [], ◌∷◌, length, get_or, map, filter, fold, Contains, refl, sym, ap, subst, ◌∙◌, arith}
+use Rattle.std.proofs.Common.{◌≡◌, ◌⊎◌, inl, inr, ℕ, zero, suc, ◌+◌, ◌<◌, ◌≤◌, max, Bool, true, false, cond, ◌||◌, List, [], ◌∷◌, length, map, filter, fold, Contains, refl, sym, subst, ◌∙◌, arith}
 use Rattle.std.proofs.lemmas.Bool.{or_cases, cases_lt}
 use Rattle.dg_num.specs.Walks.{Walk, IsOnCycle, IsRank}
 use Rattle.dg_num.proofs.Weighings.{Placed, Placed-list, no_long_walk, HasOneWeight-from_placed}
 use Rattle.dg_decl.specs.declared.document.Doc.{Doc}
 use Rattle.dg_decl.specs.declared.graph.Node.{Node}
 use Rattle.dg_decl.specs.Walks.{IsReached, root, step}
-use Rattle.dg_decl.specs.Graph.{EdgeTo, edges, candidates, is_reachable, nodes, targets_by, is_direct, is_called, direct_targets, called_targets, needed_targets, OnCycle, OnCall}
-use Rattle.dg_decl.specs.Sizes.{depth_within, depth, IsDepth, size, is_shared, weight}
-use Rattle.dg_decl.specs.GraphLaws.{OptionalsAreNoGroups, HasNoCycle, DepthsAreLongestWalks, AreWeights, WeightsAddUp}
+use Rattle.dg_decl.specs.Graph.{EdgeTo, edges, candidates, is_reachable, nodes, targets_by, is_direct, is_called, direct_targets, called_targets, needed_targets, OnCycle}
+use Rattle.dg_decl.specs.Sizes.{depth_within, depth, size, is_shared, weight}
+use Rattle.dg_decl.specs.GraphLaws.{OptionalsAreNoGroups, HasNoCycle, DepthsAreLongestWalks, WeightsAddUp}
 use Rattle.dg_decl.proofs.NodeWalks.{in_rest, reached_beyond}
 use Rattle.dg_decl.proofs.MemberLemmas.{none_in, in_front, first_or_rest, the_one, in_map, out_map, in_filter, out_filter}
 use Rattle.dg_decl.proofs.GraphLemmas.{target_is_node, leads_by}
