@@ -19,7 +19,8 @@ is_optional_type other = false
 -- no contribution and no `multibinds` line has the type of an optional; the stage of types sees to that
 abbrev pub OptionalsAreNoGroups : Doc → Type 0
 OptionalsAreNoGroups doc =
-    (b : Bind) → Contains (bindings doc) b → (is_contribution b.kind || is_declaration b.kind) ≡ true
+    (b : Bind) → Contains (bindings doc) b → (is_contribution b.kind || is_declaration b.kind) ≡
+    true
     → is_optional_type b.key.core ≡ false
 
 -- where the stage of types finds nothing, no set or map has the type of an optional
@@ -31,7 +32,8 @@ abbrev pub TargetsAreCandidates : Type 0
 TargetsAreCandidates =
     (doc : Doc) → OptionalsAreNoGroups doc
     → ((n : Node) → Contains (entry_nodes doc) n → Contains (candidates doc) n)
-    × ((m n : Node) → Contains (candidates doc) m → Contains (targets doc m) n → Contains (candidates doc) n)
+    × ((m n : Node) → Contains (candidates doc) m → Contains (targets doc m) n → Contains
+    (candidates doc) n)
 
 -- the nodes of a document are those that are reached from its entry points, each once
 abbrev pub NodesAreTheReachableOnes : Type 0
@@ -72,7 +74,8 @@ DepthsAreLongestWalks =
 -- each weight is the size of the node and what its edges add, and no other numbers are
 pub record AreWeights (doc : Doc) (weights : Node → ℕ) : Type 0 where
   pub add_up : AddsUp (Contains (nodes doc)) (needed_targets doc) (size doc) (is_shared doc) weights
-  pub only : (other : Node → ℕ) → AddsUp (Contains (nodes doc)) (needed_targets doc) (size doc) (is_shared doc) other
+  pub only : (other : Node → ℕ) → AddsUp (Contains (nodes doc)) (needed_targets doc) (size doc)
+      (is_shared doc) other
       → (n : Node) → Contains (nodes doc) n → other n ≡ weights n
 
 -- without cycles the weights add up
