@@ -13,7 +13,7 @@ use Rattle.dg_types.specs.declared.key.Request.{Request}
 use Rattle.dg_types.specs.declared.shape.Shape.{Shape, out-Shape}
 use Rattle.dg_types.specs.declared.shape.Shape.TheOpen.{Shape-F}
 use Rattle.dg_types.specs.declared.shape.TypeUse.{TypeUse}
-use Rattle.dg_types.specs.Requests.{Layer, Held, Asked, base_at, base_of, kind_of, held_as, value_at, value_of, provided_at, provided_in, inside_at, inside_of, one_of, set_of, optional_of, map_of, core_at, core_of, asked_as, deferred_at, deferred_of, plain_at, plain_of, produced_of, producing_at, producing_of, first_of_two, asked_of, request_of}
+use Rattle.dg_types.specs.Requests.{Layer, Held, Asked, base_at, base_of, kind_of, held_as, value_at, value_of, provided_at, inside_at, inside_of, one_of, set_of, map_of, core_at, core_of, asked_as, deferred_at, plain_at, plain_of, produced_of, producing_at, producing_of, first_of_two, asked_of, request_of}
 use Rattle.dg_decl.proofs.MemberLemmas.{out_option_map}
 
 abbrev pub is_set_form : Inner → Bool
@@ -41,7 +41,8 @@ is_asked (core.Optional b i) = is_inside_form i
 abbrev Holds : {A : Type 0} → (A → Bool) → Option A → Type 0
 Holds {A} p o = (a : A) → o ≡ Some a → p a ≡ true
 
-mapped : {A B : Type 0} (p : A → Bool) (q : B → Bool) (f : A → B) (o : Option A) → Holds p o → ((a : A) → p a ≡ true → q (f a) ≡ true) → Holds q (option_map f o)
+mapped : {A B : Type 0} (p : A → Bool) (q : B → Bool) (f : A → B) (o : Option A) → Holds p o
+    → ((a : A) → p a ≡ true → q (f a) ≡ true) → Holds q (option_map f o)
 mapped p q f None h g b e = absurd (none-some b e)
 mapped p q f (Some a) h g b e = ap q (sym (same_Some (f a) b e)) ∙ g a (h a refl)
 
@@ -62,7 +63,8 @@ map_held h = is_map_form h.1
 abbrev inside_held : Held → Bool
 inside_held h = is_inside_form h.1
 
-held_so : (p : Held → Bool) (form : Inner) (o : Option Base) → ((b : Base) → p (b, form) ≡ true) → Holds p (held_as form o)
+held_so : (p : Held → Bool) (form : Inner) (o : Option Base) → ((b : Base) → p (b, form) ≡ true)
+    → Holds p (held_as form o)
 held_so p form o h = mapped any_of p (λ x. (x, form)) o (anything o) (λ b e. h b)
 
 value_held : (l : Layer) → Holds map_held (value_at l)
@@ -78,7 +80,8 @@ inside_held_at (Shape-F.Provider t) = provided_held (out-Shape t)
 inside_held_at (Shape-F.Lazy t) = held_so inside_held inner.Lazy (base_of t) (λ b. refl)
 inside_held_at l = held_so inside_held inner.Plain (base_at l) (λ b. refl)
 
-map_asked : (k : Option MapKind) (held : Option Held) → Holds map_held held → Holds is_asked (map_of k held)
+map_asked : (k : Option MapKind) (held : Option Held) → Holds map_held held
+    → Holds is_asked (map_of k held)
 map_asked None held h = none_holds is_asked
 map_asked (Some k) held h = mapped map_held is_asked (λ x. core.Map k x.0 x.1) held h (λ a e. e)
 
@@ -86,9 +89,11 @@ map_asked (Some k) held h = mapped map_held is_asked (λ x. core.Map k x.0 x.1) 
 
 core_asked : (l : Layer) → Holds is_asked (core_at l)
 unfolding value_of inside_of
-core_asked (Shape-F.Set t) = mapped any_of is_asked (λ x. core.Set x inner.Plain) (base_of t) (anything (base_of t)) (λ b e. refl)
+core_asked (Shape-F.Set t) = mapped any_of is_asked (λ x. core.Set x inner.Plain) (base_of t)
+    (anything (base_of t)) (λ b e. refl)
 core_asked (Shape-F.Map k t) = map_asked (kind_of k) (value_of t) (value_held (out-Shape t))
-core_asked (Shape-F.Optional t) = mapped inside_held is_asked (λ h. core.Optional h.0 h.1) (inside_of t) (inside_held_at (out-Shape t)) (λ a e. e)
+core_asked (Shape-F.Optional t) = mapped inside_held is_asked (λ h. core.Optional h.0 h.1)
+    (inside_of t) (inside_held_at (out-Shape t)) (λ a e. e)
 core_asked l = mapped any_of is_asked core.One (base_at l) (anything (base_at l)) (λ b e. refl)
 
 abbrev asks : Asked → Bool
@@ -114,12 +119,16 @@ one_asked o = mapped any_of is_asked core.One o (anything o) (λ b e. refl)
 producing_asked : (l : Layer) → Holds asks (producing_at l)
 producing_asked (Shape-F.Set t) =
     asked_so mode.Instance (set_of inner.Produced (produced_of t))
-    (mapped any_of is_asked (λ x. core.Set x inner.Produced) (produced_of t) (anything (produced_of t)) (λ b e. refl))
+    (mapped any_of is_asked (λ x. core.Set x inner.Produced) (produced_of t) (anything (produced_of
+    t)) (λ b e. refl))
 producing_asked (Shape-F.Map k t) =
     asked_so mode.Instance (map_of (kind_of k) (held_as inner.Produced (produced_of t)))
-    (map_asked (kind_of k) (held_as inner.Produced (produced_of t)) (held_so map_held inner.Produced (produced_of t) (λ b. refl)))
-producing_asked (Shape-F.Produced t) = asked_so mode.Produced (one_of (base_of t)) (one_asked (base_of t))
-producing_asked (Shape-F.Producer t) = asked_so mode.Producer (one_of (base_of t)) (one_asked (base_of t))
+    (map_asked (kind_of k) (held_as inner.Produced (produced_of t)) (held_so map_held
+    inner.Produced (produced_of t) (λ b. refl)))
+producing_asked (Shape-F.Produced t) = asked_so mode.Produced (one_of (base_of t)) (one_asked
+    (base_of t))
+producing_asked (Shape-F.Producer t) = asked_so mode.Producer (one_of (base_of t)) (one_asked
+    (base_of t))
 producing_asked l = none_holds asks
 
 first_asked : (o p : Option Asked) → Holds asks o → Holds asks p → Holds asks (first_of_two o p)
@@ -128,10 +137,12 @@ first_asked (Some a) p first second = first
 
 asked_is_asked : (s : Shape) → Holds asks (asked_of s)
 unfolding asked_of plain_of producing_of
-asked_is_asked s = first_asked (plain_at (out-Shape s)) (producing_at (out-Shape s)) (plain_asked (out-Shape s)) (producing_asked (out-Shape s))
+asked_is_asked s = first_asked (plain_at (out-Shape s)) (producing_at (out-Shape s)) (plain_asked
+    (out-Shape s)) (producing_asked (out-Shape s))
 
 -- a request has a key of one of the forms that can be asked for
-pub request_is_asked : (u : TypeUse) (r : Request) → request_of u ≡ Some r → is_asked r.key.core ≡ true
+pub request_is_asked : (u : TypeUse) (r : Request) → request_of u ≡ Some r
+    → is_asked r.key.core ≡ true
 unfolding request_of
 request_is_asked u r e =
     let o = out_option_map _ (asked_of u.shape) r e in

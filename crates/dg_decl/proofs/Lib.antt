@@ -29,3 +29,5 @@ pub mod NodesOnce
 pub mod AllBack
 pub mod DepthLemmas
 pub mod TreesBack
+pub mod GroupTypes
+pub mod AcceptedGraph

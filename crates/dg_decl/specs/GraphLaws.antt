@@ -1,11 +1,13 @@
 -- The laws of the graph of a document.
-use Rattle.std.specs.Prelude.{◌≡◌, ◌↔◌, ℕ, IsTrue, Bool, true, false, ◌||◌, Contains}
+use Rattle.std.specs.Prelude.{◌≡◌, ◌↔◌, ℕ, IsTrue, Bool, true, false, ◌||◌, [], filter, Contains}
 use Rattle.dg_types.specs.declared.key.Core.{Core}
 use Rattle.dg_types.specs.declared.key.Core.TheVariants as core
 use Rattle.dg_decl.specs.declared.document.Doc.{Doc}
 use Rattle.dg_decl.specs.declared.binding.Bind.{Bind}
 use Rattle.dg_decl.specs.declared.graph.Node.{Node}
 use Rattle.dg_decl.specs.Lookup.{bindings, is_contribution, is_declaration}
+use Rattle.dg_decl.specs.Stages.Types.{types_stage}
+use Rattle.dg_decl.specs.Stages.Bindings.{bindings_stage}
 use Rattle.dg_decl.specs.Graph.{targets, entry_nodes, candidates, nodes, AreNodes, OnCycle, is_on_cycle, OnCall, is_on_call, needed_targets}
 use Rattle.dg_decl.specs.Sizes.{IsProduction, is_production, IsDepth, depth, size, is_shared, weight}
 use Rattle.dg_num.specs.Weights.{AddsUp}
@@ -17,19 +19,31 @@ is_optional_type other = false
 -- no contribution and no `multibinds` line has the type of an optional; the stage of types sees to that
 abbrev pub OptionalsAreNoGroups : Doc → Type 0
 OptionalsAreNoGroups doc =
-    (b : Bind) → Contains (bindings doc) b → (is_contribution b.kind || is_declaration b.kind) ≡ true
+    (b : Bind) → Contains (bindings doc) b → (is_contribution b.kind || is_declaration b.kind) ≡
+    true
     → is_optional_type b.key.core ≡ false
+
+-- where the stage of types finds nothing, no set or map has the type of an optional
+abbrev pub TypesMakeNoGroupsOfOptionals : Type 0
+TypesMakeNoGroupsOfOptionals = (doc : Doc) → types_stage doc ≡ [] → OptionalsAreNoGroups doc
 
 -- an entry point is a candidate, and what a candidate needs is one
 abbrev pub TargetsAreCandidates : Type 0
 TargetsAreCandidates =
     (doc : Doc) → OptionalsAreNoGroups doc
     → ((n : Node) → Contains (entry_nodes doc) n → Contains (candidates doc) n)
-    × ((m n : Node) → Contains (candidates doc) m → Contains (targets doc m) n → Contains (candidates doc) n)
+    × ((m n : Node) → Contains (candidates doc) m → Contains (targets doc m) n → Contains
+    (candidates doc) n)
 
 -- the nodes of a document are those that are reached from its entry points, each once
 abbrev pub NodesAreTheReachableOnes : Type 0
 NodesAreTheReachableOnes = (doc : Doc) → OptionalsAreNoGroups doc → AreNodes doc (nodes doc)
+
+-- no other list of candidates, in their order, is that of the reachable nodes
+abbrev pub OneListOfNodes : Type 0
+OneListOfNodes =
+    (doc : Doc) → OptionalsAreNoGroups doc → (is_kept : Node → Bool)
+    → AreNodes doc (filter is_kept (candidates doc)) → filter is_kept (candidates doc) ≡ nodes doc
 
 -- of a node, no walk of direct or called edges is too long to be found
 abbrev pub CyclesByShortWalks : Type 0
@@ -47,6 +61,10 @@ ProductionsByShortWalks =
 abbrev pub HasNoCycle : Doc → Type 0
 HasNoCycle doc = (n : Node) → Contains (nodes doc) n → (OnCycle doc n → ⊥) × (OnCall doc n → ⊥)
 
+-- where the stages of types and of bindings find nothing, there is no cycle
+abbrev pub StagesLeaveNoCycle : Type 0
+StagesLeaveNoCycle = (doc : Doc) → types_stage doc ≡ [] → bindings_stage doc ≡ [] → HasNoCycle doc
+
 -- without cycles the depth of a node is the number of nodes on its longest walk
 abbrev pub DepthsAreLongestWalks : Type 0
 DepthsAreLongestWalks =
@@ -56,7 +74,8 @@ DepthsAreLongestWalks =
 -- each weight is the size of the node and what its edges add, and no other numbers are
 pub record AreWeights (doc : Doc) (weights : Node → ℕ) : Type 0 where
   pub add_up : AddsUp (Contains (nodes doc)) (needed_targets doc) (size doc) (is_shared doc) weights
-  pub only : (other : Node → ℕ) → AddsUp (Contains (nodes doc)) (needed_targets doc) (size doc) (is_shared doc) other
+  pub only : (other : Node → ℕ) → AddsUp (Contains (nodes doc)) (needed_targets doc) (size doc)
+      (is_shared doc) other
       → (n : Node) → Contains (nodes doc) n → other n ≡ weights n
 
 -- without cycles the weights add up

@@ -1,8 +1,15 @@
 //! The laws of the graph: what is reached from entry points are its nodes, and where a definition walks at most so many
 //! steps, more steps come to nothing new.
 
-ghost use Rattle.dg_decl.specs.GraphLaws.{CyclesByShortWalks, DepthsAreLongestWalks, NodesAreTheReachableOnes};
-ghost use Rattle.dg_decl.specs.GraphLaws.{ProductionsByShortWalks, TargetsAreCandidates, WeightsAddUp};
+ghost use Rattle.dg_decl.specs.GraphLaws.{CyclesByShortWalks, DepthsAreLongestWalks, NodesAreTheReachableOnes, OneListOfNodes};
+ghost use Rattle.dg_decl.specs.GraphLaws.{ProductionsByShortWalks, StagesLeaveNoCycle, TargetsAreCandidates};
+ghost use Rattle.dg_decl.specs.GraphLaws.{TypesMakeNoGroupsOfOptionals, WeightsAddUp};
+
+/// Where the stage of types finds nothing, no contribution and no `multibinds` line has the type of an optional. The other
+/// laws of the graph ask for no more of a document.
+pub fn types_make_no_groups_of_optionals()
+    ensures exact { TypesMakeNoGroupsOfOptionals }
+{}
 
 /// Each node that an entry point or a node needs is among the candidates, so that nothing is lost where nodes are listed.
 pub fn targets_are_candidates()
@@ -15,6 +22,12 @@ pub fn nodes_are_the_reachable_ones()
     ensures exact { NodesAreTheReachableOnes }
 {}
 
+/// The candidates that are reached, each once and in the order of candidates, are one list: a program that lists them so has
+/// no choice.
+pub fn one_list_of_nodes()
+    ensures exact { OneListOfNodes }
+{}
+
 /// A closed walk of direct edges, of any length, leads from a node to itself exactly where one of at most as many steps as
 /// there are candidates does; and so it is with one of direct and called edges that has a called one.
 pub fn cycles_by_short_walks()
@@ -25,6 +38,12 @@ pub fn cycles_by_short_walks()
 /// candidates does.
 pub fn productions_by_short_walks()
     ensures exact { ProductionsByShortWalks }
+{}
+
+/// Where the stages of types and of bindings find nothing, no node lies on a closed walk of direct edges, nor on one of direct
+/// and called edges with a called one.
+pub fn stages_leave_no_cycle()
+    ensures exact { StagesLeaveNoCycle }
 {}
 
 /// In a document without cycles the depth of a node is the number of nodes on the longest walk of direct and called edges
