@@ -10,3 +10,6 @@ pub mod HeaderLemmas
 pub mod NodeWalks
 pub mod NodeEquality
 pub mod ExampleShop
+pub mod JudgeWords
+pub mod FoldEquations
+pub mod ExamplesTyping
