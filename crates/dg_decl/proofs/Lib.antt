@@ -13,3 +13,5 @@ pub mod ExampleShop
 pub mod JudgeWords
 pub mod FoldEquations
 pub mod ExamplesTyping
+pub mod ExamplesGraph
+pub mod ExamplesStages
