@@ -1,7 +1,7 @@
 -- Small documents that decide the nodes of a graph, their order and their edges. Hilt's classes have the numbers 0 to 7,
 -- and the components of a document have those from 8 on. Items are counted from 0, lines from 1.
 use Rattle.std.proofs.Common.{◌≡◌, refl, ap}
-use Rattle.std.specs.Prelude.{ℕ, true, false, List, [], ◌∷◌, Some, None, codes, pos, map, filter_map, ◌++◌, option_map}
+use Rattle.std.specs.Prelude.{ℕ, true, List, [], ◌∷◌, Some, None, codes, pos, map, filter_map, ◌++◌, option_map}
 use Rattle.dg_types.specs.declared.shape.Shape.TheVariants as shape
 use Rattle.dg_types.specs.declared.key.Key.{Key}
 use Rattle.dg_types.specs.declared.key.Base.TheVariants as base
@@ -27,7 +27,7 @@ use Rattle.dg_decl.specs.declared.graph.Edge.{Edge}
 use Rattle.dg_decl.specs.declared.graph.EdgeKind.TheVariants as edge
 use Rattle.dg_decl.specs.Graph.{EdgeTo, node_of, site_of_node, deps, nodes, needed_edges, called_edge, calls_of, edges, number_of, numbered_edges}
 use Rattle.dg_decl.specs.Sizes.{depth, weight, size}
-use Rattle.dg_decl.proofs.ExampleWords.{doc_of, bare_use, key_of, text_use, class_use, text_set, module_line, component_line, element_line, inject_line, parameter}
+use Rattle.dg_decl.proofs.ExampleWords.{doc_of, bare_use, key_of, text_use, class_use, text_set, module_line, component_line, element_line, parameter}
 use Rattle.dg_decl.proofs.JudgeWords.{judges, int_use, provider_use, named_use, provides_line}
 use Rattle.dg_decl.proofs.FoldEquations.{folds}
 

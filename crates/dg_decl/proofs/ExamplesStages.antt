@@ -11,7 +11,6 @@ use Rattle.dg_decl.specs.declared.expression.ParamCall.TheVariants as by_name
 use Rattle.dg_decl.specs.declared.expression.Expr.{Expr}
 use Rattle.dg_decl.specs.declared.expression.Expr.TheVariants as expr
 use Rattle.dg_decl.specs.declared.expression.Tree.TheVariants as tree
-use Rattle.dg_decl.specs.declared.item.Mark.{Mark}
 use Rattle.dg_decl.specs.declared.item.Mark.TheVariants as mark
 use Rattle.dg_decl.specs.declared.item.Item.{Item}
 use Rattle.dg_decl.specs.declared.item.Item.TheVariants as item
@@ -353,7 +352,7 @@ unfolding judges
 a_deferred_cycle_breaks_no_rule = refl
 
 -- a body calls what its Provider defers: a class that needs the first, or nothing
-abbrev calling_back : List Param → Doc
+abbrev pub calling_back : List Param → Doc
 calling_back params =
     doc_of (item.Class true None (codes "B") params []
     ∷ module_line (codes "M")
@@ -365,7 +364,7 @@ calling_back params =
     ∷ item.End
     ∷ [])
 
-abbrev closing : Doc
+abbrev pub closing : Doc
 closing =
     calling_back (parameter (codes "n") (named_use (codes "a") (shape.Named (codes "B"))) ∷ [])
 
@@ -504,3 +503,9 @@ pub links_that_do_not_fit :
     ∷ []
 unfolding judges
 links_that_do_not_fit = refl
+
+pub only_the_first_stage_that_finds_something_is_given :
+    diagnostics (depending (item.AskLine (codes "z") (codes "e") [] ∷ []))
+    ≡ broken_by rule.UnknownInstance (codes "line 12") (codes "z") ∷ []
+unfolding judges
+only_the_first_stage_that_finds_something_is_given = refl

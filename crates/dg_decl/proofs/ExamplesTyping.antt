@@ -1,5 +1,5 @@
 -- Small expressions that decide typing.
-use Rattle.std.proofs.Common.{◌≡◌, refl, ℤ}
+use Rattle.std.proofs.Common.{◌≡◌, refl}
 use Rattle.std.specs.Prelude.{true, false, List, [], ◌∷◌, Some, None, codes, pos}
 use Rattle.dg_types.specs.declared.shape.Shape.{Shape}
 use Rattle.dg_types.specs.declared.shape.Shape.TheVariants as shape
@@ -13,8 +13,8 @@ use Rattle.dg_decl.specs.declared.expression.Tree.TheVariants as tree
 use Rattle.dg_decl.specs.declared.item.Item.TheVariants as item
 use Rattle.dg_decl.specs.declared.item.Param.{Param}
 use Rattle.dg_decl.specs.Typing.{synth, checks, is_assignable, is_typed_condition, tree_checks}
-use Rattle.dg_decl.proofs.ExampleWords.{doc_of, bare_use, text_use, class_use, parameter}
-use Rattle.dg_decl.proofs.JudgeWords.{judges, int_use, provider_use}
+use Rattle.dg_decl.proofs.ExampleWords.{doc_of, bare_use, parameter}
+use Rattle.dg_decl.proofs.JudgeWords.{judges, int_use}
 use Rattle.dg_decl.proofs.FoldEquations.{folds}
 
 -- two classes and their interface

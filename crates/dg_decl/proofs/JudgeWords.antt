@@ -1,5 +1,5 @@
 -- Words for small documents in examples of what is judged, beside those for look-ups.
-use Rattle.std.specs.Prelude.{ℕ, zero, List, [], ◌∷◌, Option, Some, None, codes}
+use Rattle.std.specs.Prelude.{ℕ, zero, List, Some, None, codes}
 use Rattle.dg_lex.specs.Bytes.{Bytes}
 use Rattle.dg_types.specs.declared.shape.Shape.{Shape}
 use Rattle.dg_types.specs.declared.shape.Shape.TheVariants as shape
@@ -10,7 +10,6 @@ use Rattle.dg_types.specs.Texts.{quoted, map_key_text, shape_text, qualifier_tex
 use Rattle.dg_decl.specs.declared.expression.Expr.{Expr}
 use Rattle.dg_decl.specs.declared.item.Item.{Item}
 use Rattle.dg_decl.specs.declared.item.Item.TheVariants as item
-use Rattle.dg_decl.specs.declared.item.Mark.{Mark}
 use Rattle.dg_decl.specs.declared.item.Param.{Param}
 use Rattle.dg_decl.specs.declared.violation.Rule.{Rule}
 use Rattle.dg_decl.specs.declared.violation.Violation.{Violation}

@@ -15,3 +15,4 @@ pub mod FoldEquations
 pub mod ExamplesTyping
 pub mod ExamplesGraph
 pub mod ExamplesStages
+pub mod ExamplesCalls
