@@ -31,3 +31,9 @@ pub mod DepthLemmas
 pub mod TreesBack
 pub mod GroupTypes
 pub mod AcceptedGraph
+pub mod JudgeWords
+pub mod FoldEquations
+pub mod ExamplesTyping
+pub mod ExamplesGraph
+pub mod ExamplesStages
+pub mod ExamplesCalls

@@ -61,7 +61,7 @@ site_of_owned doc o = site_of_node doc (node_of o.owner (node.Bound o.binding))
 -- a key, and the sites of what binds it
 abbrev pub many_text : Doc → Key → List Owned → Bytes
 many_text doc key owners =
-    key_text key ++ codes " by " ++ join_by (site_of_owned doc) (codes ", ") owners
+    key_text key ++ (codes " by " ++ join_by (site_of_owned doc) (codes ", ") owners)
 
 -- a request finds two bindings or more: the detail is the key and their sites
 unfoldable pub duplicate_bindings : Doc → Node → List Violation
