@@ -20,3 +20,4 @@ pub mod OnceLemmas
 pub mod NodesOnce
 pub mod GroupTypes
 pub mod AcceptedGraph
+pub mod EdgeNumbers

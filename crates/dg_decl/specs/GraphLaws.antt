@@ -1,14 +1,16 @@
 -- The laws of the graph of a document.
-use Rattle.std.specs.Prelude.{◌≡◌, ◌↔◌, ℕ, IsTrue, Bool, true, false, ◌||◌, [], filter, Contains}
+use Rattle.std.specs.Prelude.{◌≡◌, ◌↔◌, ℕ, IsTrue, Bool, true, false, ◌||◌, [], filter, map, slice_get, Option, Some, Contains}
 use Rattle.dg_types.specs.declared.key.Core.{Core}
 use Rattle.dg_types.specs.declared.key.Core.TheVariants as core
 use Rattle.dg_decl.specs.declared.document.Doc.{Doc}
 use Rattle.dg_decl.specs.declared.binding.Bind.{Bind}
+use Rattle.dg_decl.specs.declared.graph.Edge.{Edge}
+use Rattle.dg_decl.specs.declared.graph.EdgeKind.{EdgeKind}
 use Rattle.dg_decl.specs.declared.graph.Node.{Node}
 use Rattle.dg_decl.specs.Lookup.{bindings, is_contribution, is_declaration}
 use Rattle.dg_decl.specs.Stages.Types.{types_stage}
 use Rattle.dg_decl.specs.Stages.Bindings.{bindings_stage}
-use Rattle.dg_decl.specs.Graph.{targets, entry_nodes, candidates, nodes, AreNodes, OnCycle, is_on_cycle, OnCall, is_on_call, needed_targets}
+use Rattle.dg_decl.specs.Graph.{targets, entry_nodes, candidates, nodes, AreNodes, OnCycle, is_on_cycle, OnCall, is_on_call, needed_targets, EdgeTo, edges, numbered_edges}
 use Rattle.dg_decl.specs.Sizes.{IsProduction, is_production, IsDepth, depth, size, is_shared, weight}
 use Rattle.dg_num.specs.Weights.{AddsUp}
 
@@ -81,3 +83,21 @@ pub record AreWeights (doc : Doc) (weights : Node → ℕ) : Type 0 where
 -- without cycles the weights add up
 abbrev pub WeightsAddUp : Type 0
 WeightsAddUp = (doc : Doc) → OptionalsAreNoGroups doc → HasNoCycle doc → AreWeights doc (weight doc)
+
+-- where an edge leads, with its kind and its parameter
+pub record Led : Type 0 where
+  pub kind : EdgeKind
+  pub param : ℕ
+  pub to : Option Node
+
+abbrev pub edge_led : EdgeTo → Led
+edge_led e = record { kind = e.kind; param = e.param; to = Some e.to }
+
+abbrev pub numbered_led : Doc → Edge → Led
+numbered_led doc e = record { kind = e.kind; param = e.param; to = slice_get (nodes doc) e.to }
+
+-- the edges of a node by numbers are its edges, each at the number of the node to which it leads
+abbrev pub EdgesAreNumbered : Type 0
+EdgesAreNumbered =
+    (doc : Doc) → OptionalsAreNoGroups doc → (n : Node) → Contains (nodes doc) n
+    → map (numbered_led doc) (numbered_edges doc n) ≡ map edge_led (edges doc n)
