@@ -21,8 +21,8 @@ is_optional_type other = false
 -- no contribution and no `multibinds` line has the type of an optional; the stage of types sees to that
 abbrev pub OptionalsAreNoGroups : Doc → Type 0
 OptionalsAreNoGroups doc =
-    (b : Bind) → Contains (bindings doc) b → (is_contribution b.kind || is_declaration b.kind) ≡
-    true
+    (b : Bind) → Contains (bindings doc) b
+    → (is_contribution b.kind || is_declaration b.kind) ≡ true
     → is_optional_type b.key.core ≡ false
 
 -- where the stage of types finds nothing, no set or map has the type of an optional
@@ -34,8 +34,8 @@ abbrev pub TargetsAreCandidates : Type 0
 TargetsAreCandidates =
     (doc : Doc) → OptionalsAreNoGroups doc
     → ((n : Node) → Contains (entry_nodes doc) n → Contains (candidates doc) n)
-    × ((m n : Node) → Contains (candidates doc) m → Contains (targets doc m) n → Contains
-    (candidates doc) n)
+    × ((m n : Node) → Contains (candidates doc) m → Contains (targets doc m) n
+    → Contains (candidates doc) n)
 
 -- the nodes of a document are those that are reached from its entry points, each once
 abbrev pub NodesAreTheReachableOnes : Type 0
