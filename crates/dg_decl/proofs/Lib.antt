@@ -18,6 +18,5 @@ pub mod GraphLemmas
 pub mod SizeLemmas
 pub mod OnceLemmas
 pub mod NodesOnce
-pub mod GroupTypes
 pub mod AcceptedGraph
 pub mod EdgeNumbers
