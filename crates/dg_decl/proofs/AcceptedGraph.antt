@@ -11,7 +11,6 @@ use Rattle.dg_decl.specs.GraphLaws.{OneListOfNodes, StagesLeaveNoCycle}
 use Rattle.dg_decl.proofs.NodeWalks.{in_rest}
 use Rattle.dg_decl.proofs.MemberLemmas.{in_filter, out_filter, in_flat_map, none_in, in_front}
 use Rattle.dg_decl.proofs.GraphLemmas.{reachable_by_short_walks, cycles_by_short_walks}
-use Rattle.dg_decl.proofs.GroupTypes.{types_make_no_groups_of_optionals}
 
 -- ---- one list
 
@@ -33,11 +32,11 @@ both_ways false false f g = refl
 
 pub one_list_of_nodes : OneListOfNodes
 unfolding nodes
-one_list_of_nodes doc plain p are =
+one_list_of_nodes doc p are =
     filter_same p (is_reachable doc) (candidates doc) (λ n c. both_ways (p n) (is_reachable doc n)
-    (λ h. (reachable_by_short_walks doc plain n).1 ((are.each n).0 (in_filter p (candidates doc) n
+    (λ h. (reachable_by_short_walks doc n).1 ((are.each n).0 (in_filter p (candidates doc) n
     c h)))
-    (λ h. (out_filter p (candidates doc) n ((are.each n).1 ((reachable_by_short_walks doc plain
+    (λ h. (out_filter p (candidates doc) n ((are.each n).1 ((reachable_by_short_walks doc
     n).0 h))).1))
 
 -- ---- no cycle
@@ -81,7 +80,7 @@ on_none doc n e =
 
 pub stages_leave_no_cycle : StagesLeaveNoCycle
 unfolding bindings_stage
-stages_leave_no_cycle doc types bindings n c =
+stages_leave_no_cycle doc bindings n c =
     let none = on_none doc n (flat_nil (bindings_at doc) (nodes doc) n bindings c) in
-    let laws = cycles_by_short_walks doc (types_make_no_groups_of_optionals doc types) n c in
+    let laws = cycles_by_short_walks doc n c in
     (λ on. false≢true (sym none.0 ∙ laws.0.1 on), λ on. false≢true (sym none.1 ∙ laws.1.1 on))

@@ -71,5 +71,5 @@ all_led doc (e ∷ es) among =
 
 pub edges_are_numbered : EdgesAreNumbered
 unfolding numbered_edges
-edges_are_numbered doc plain n is =
-    all_led doc (edges doc n) (λ e c. target_is_node doc plain n e.to is (edge_leads doc n e c))
+edges_are_numbered doc n is =
+    all_led doc (edges doc n) (λ e c. target_is_node doc n e.to is (edge_leads doc n e c))

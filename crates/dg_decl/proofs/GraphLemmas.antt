@@ -14,7 +14,7 @@ use Rattle.dg_decl.specs.declared.graph.EdgeKind.TheVariants as edge
 use Rattle.dg_decl.specs.Walks.{IsReached, step, is_within}
 use Rattle.dg_decl.specs.Graph.{same_node, node_of, Dependency, deps, target, targets, entry_nodes, IsReachable, candidates, is_reachable, nodes, EdgeTo, edge_kind, edge_to, needed_edges, is_param, is_called_mode, called_at, called_edge, calls_of, edges, inner_of, targets_by, is_direct, is_called, direct_targets, called_targets, needed_targets, OnCycle, OnCall, is_on_cycle, is_on_call}
 use Rattle.dg_decl.specs.Sizes.{is_producer, is_unscoped_binds, item_of_node, is_provider_form, passed_on, is_production}
-use Rattle.dg_decl.specs.GraphLaws.{OptionalsAreNoGroups, CyclesByShortWalks, ProductionsByShortWalks}
+use Rattle.dg_decl.specs.GraphLaws.{CyclesByShortWalks, ProductionsByShortWalks}
 use Rattle.dg_decl.proofs.NodeWalks.{LeadsInto, AreIn, any_found, any_from, reached_in, walks_among}
 use Rattle.dg_decl.proofs.NodeEquality.{first_so, second_so, both_so, node_decides}
 use Rattle.dg_decl.proofs.MemberLemmas.{none_in, the_one, out_map, in_filter, out_filter, in_filter_map, out_filter_map, out_option_map, out_and_then, out_if, in_got, out_enumerate}
@@ -23,23 +23,22 @@ use Rattle.dg_decl.proofs.NodeTargets.{targets_are}
 
 -- ---- nodes
 
-pub reachable_by_short_walks : (doc : Doc) → OptionalsAreNoGroups doc → (n : Node)
+pub reachable_by_short_walks : (doc : Doc) → (n : Node)
     → IsTrue (is_reachable doc n) ↔ IsReachable doc n
 unfolding is_reachable
-reachable_by_short_walks doc plain n =
+reachable_by_short_walks doc n =
     walks_among same_node node_decides (targets doc) (candidates doc) (entry_nodes doc)
-    (λ m o c h. targets_are doc plain m o c h) (λ m c. entries_are doc m c) n
+    (λ m o c h. targets_are doc m o c h) (λ m c. entries_are doc m c) n
 
-pub reached_nodes : (doc : Doc) → OptionalsAreNoGroups doc → (n : Node)
+pub reached_nodes : (doc : Doc) → (n : Node)
     → Contains (nodes doc) n ↔ IsReachable doc n
 unfolding nodes
-reached_nodes doc plain n = (
-  λ c. (reachable_by_short_walks doc plain n).0 (out_filter (is_reachable doc) (candidates doc) n
+reached_nodes doc n = (
+  λ c. (reachable_by_short_walks doc n).0 (out_filter (is_reachable doc) (candidates doc) n
       c).1,
   λ w. in_filter (is_reachable doc) (candidates doc) n
-      (reached_in (targets doc) (candidates doc) (entry_nodes doc) (λ m o c h. targets_are doc
-      plain m o c h) (λ m c. entries_are doc m c) n w)
-      ((reachable_by_short_walks doc plain n).1 w),
+      (reached_in (targets doc) (candidates doc) (entry_nodes doc) (λ m o c h. targets_are doc m o c h) (λ m c. entries_are doc m c) n w)
+      ((reachable_by_short_walks doc n).1 w),
 )
 
 pub node_is_candidate : (doc : Doc) (n : Node) → Contains (nodes doc) n
@@ -48,10 +47,10 @@ unfolding nodes
 node_is_candidate doc n c = (out_filter (is_reachable doc) (candidates doc) n c).0
 
 -- what a node needs is a node
-pub target_is_node : (doc : Doc) → OptionalsAreNoGroups doc → (m n : Node)
+pub target_is_node : (doc : Doc) → (m n : Node)
     → Contains (nodes doc) m → Contains (targets doc m) n → Contains (nodes doc) n
-target_is_node doc plain m n c h =
-    (reached_nodes doc plain n).1 (step m n ((reached_nodes doc plain m).0 c) h)
+target_is_node doc m n c h =
+    (reached_nodes doc n).1 (step m n ((reached_nodes doc m).0 c) h)
 
 -- ---- edges lead where dependencies lead
 
@@ -93,9 +92,9 @@ leads_by doc by m n c =
     let P : Node → Type 0 = λ t. Contains (targets doc m) t in
     subst P o.2 (edge_leads doc m o.0 f.0)
 
-stay : (doc : Doc) → OptionalsAreNoGroups doc → (by : EdgeTo → Bool)
+stay : (doc : Doc) → (by : EdgeTo → Bool)
     → LeadsInto (targets_by by doc) (candidates doc)
-stay doc plain by m n c h = targets_are doc plain m n c (leads_by doc by m n h)
+stay doc by m n c h = targets_are doc m n c (leads_by doc by m n h)
 
 only_in : (doc : Doc) (n : Node) → Contains (candidates doc) n → AreIn (n ∷ []) (candidates doc)
 only_in doc n c m h = let P : Node → Type 0 = λ t. Contains (candidates doc) t in subst P
@@ -103,52 +102,51 @@ only_in doc n c m h = let P : Node → Type 0 = λ t. Contains (candidates doc) 
 
 -- ---- closed walks
 
-cycle_by_short_walks : (doc : Doc) → OptionalsAreNoGroups doc → (n : Node)
+cycle_by_short_walks : (doc : Doc) → (n : Node)
     → Contains (candidates doc) n → IsTrue (is_on_cycle doc n) ↔ OnCycle doc n
 unfolding is_on_cycle
-cycle_by_short_walks doc plain n c =
+cycle_by_short_walks doc n c =
     walks_among same_node node_decides (direct_targets doc) (candidates doc) (direct_targets doc n)
-    (stay doc plain is_direct) (λ m h. stay doc plain is_direct n m c h) n
+    (stay doc is_direct) (λ m h. stay doc is_direct n m c h) n
 
 -- a walk of direct and called edges from a candidate
 abbrev leads : Doc → Node → Node → Bool
 leads doc m n = is_within same_node (needed_targets doc) (length (candidates doc)) (m ∷ []) n
 
-needed_by_short_walks : (doc : Doc) → OptionalsAreNoGroups doc → (m n : Node)
+needed_by_short_walks : (doc : Doc) → (m n : Node)
     → Contains (candidates doc) m
     → IsTrue (leads doc m n) ↔ IsReached (needed_targets doc) (m ∷ []) n
-needed_by_short_walks doc plain m n c =
-    walks_among same_node node_decides (needed_targets doc) (candidates doc) (m ∷ []) (stay doc
-    plain _) (only_in doc m c) n
+needed_by_short_walks doc m n c =
+    walks_among same_node node_decides (needed_targets doc) (candidates doc) (m ∷ []) (stay doc _) (only_in doc m c) n
 
-call_by_short_walks : (doc : Doc) → OptionalsAreNoGroups doc → (n : Node)
+call_by_short_walks : (doc : Doc) → (n : Node)
     → Contains (candidates doc) n → IsTrue (is_on_call doc n) ↔ OnCall doc n
 unfolding is_on_call
-call_by_short_walks doc plain n c = (
+call_by_short_walks doc n c = (
   λ h. (let m = any_found (λ m. leads doc n m && list_any (λ t. leads doc t n) (called_targets doc
       m)) (candidates doc) h in
       let t = any_found (λ t. leads doc t n) (called_targets doc m.at) (second_so _ _ m.passes) in (
         m.at,
         t.at,
-        (needed_by_short_walks doc plain n m.at c).0 (first_so _ _ m.passes),
+        (needed_by_short_walks doc n m.at c).0 (first_so _ _ m.passes),
         t.among,
-        (needed_by_short_walks doc plain t.at n (stay doc plain is_called m.at t.at m.among
+        (needed_by_short_walks doc t.at n (stay doc is_called m.at t.at m.among
             t.among)).0 t.passes,
       )),
   λ w. (let m : Node = w.0 in let t : Node = w.1 in
-      let among = reached_in (needed_targets doc) (candidates doc) (n ∷ []) (stay doc plain _)
+      let among = reached_in (needed_targets doc) (candidates doc) (n ∷ []) (stay doc _)
       (only_in doc n c) m w.2 in
       let back = any_from (λ t. leads doc t n) (called_targets doc m) t w.3
-      ((needed_by_short_walks doc plain t n (stay doc plain is_called m t among w.3)).1 w.4) in
+      ((needed_by_short_walks doc t n (stay doc is_called m t among w.3)).1 w.4) in
       any_from (λ m. leads doc n m && list_any (λ t. leads doc t n) (called_targets doc m))
       (candidates doc) m among
-      (both_so _ _ ((needed_by_short_walks doc plain n m c).1 w.2) back)),
+      (both_so _ _ ((needed_by_short_walks doc n m c).1 w.2) back)),
 )
 
 pub cycles_by_short_walks : CyclesByShortWalks
-cycles_by_short_walks doc plain n c = (
-  cycle_by_short_walks doc plain n (node_is_candidate doc n c),
-  call_by_short_walks doc plain n
+cycles_by_short_walks doc n c = (
+  cycle_by_short_walks doc n (node_is_candidate doc n c),
+  call_by_short_walks doc n
       (node_is_candidate doc n c),
 )
 
@@ -169,31 +167,30 @@ passed_leads doc class (node.Multi k) t c = out_else (is_provider_form (inner_of
 passed_leads doc class (node.Opt k) t c = absurd (none_in t c)
 passed_leads doc class (node.EntryOf i) t c = absurd (none_in t c)
 
-passed_stay : (doc : Doc) → OptionalsAreNoGroups doc → LeadsInto (passed_on doc) (candidates doc)
-passed_stay doc plain m n c h = targets_are doc plain m n c (passed_leads doc m.class m.kind n h)
+passed_stay : (doc : Doc) → LeadsInto (passed_on doc) (candidates doc)
+passed_stay doc m n c h = targets_are doc m n c (passed_leads doc m.class m.kind n h)
 
 abbrev passes : Doc → Node → Node → Bool
 passes doc n m = is_within same_node (passed_on doc) (length (candidates doc)) (n ∷ []) m
 
-passed_by_short_walks : (doc : Doc) → OptionalsAreNoGroups doc → (n m : Node)
+passed_by_short_walks : (doc : Doc) → (n m : Node)
     → Contains (candidates doc) n → IsTrue (passes doc n m) ↔ IsReached (passed_on doc) (n ∷ []) m
-passed_by_short_walks doc plain n m c =
-    walks_among same_node node_decides (passed_on doc) (candidates doc) (n ∷ []) (passed_stay doc
-    plain) (only_in doc n c) m
+passed_by_short_walks doc n m c =
+    walks_among same_node node_decides (passed_on doc) (candidates doc) (n ∷ []) (passed_stay doc) (only_in doc n c) m
 
 pub productions_by_short_walks : ProductionsByShortWalks
 unfolding is_production
-productions_by_short_walks doc plain n among =
+productions_by_short_walks doc n among =
     let c = node_is_candidate doc n among in (
       λ h. (let m = any_found (λ m. is_producer doc m && passes doc n m) (candidates doc) h in (
         m.at,
-        (passed_by_short_walks doc plain n m.at c).0 (second_so _ _ m.passes),
+        (passed_by_short_walks doc n m.at c).0 (second_so _ _ m.passes),
         first_so _
             _ m.passes,
       )),
       λ w. (let m : Node = w.0 in
-          let here = reached_in (passed_on doc) (candidates doc) (n ∷ []) (passed_stay doc plain)
+          let here = reached_in (passed_on doc) (candidates doc) (n ∷ []) (passed_stay doc)
           (only_in doc n c) m w.1 in
           any_from (λ m. is_producer doc m && passes doc n m) (candidates doc) m here
-          (both_so _ _ w.2 ((passed_by_short_walks doc plain n m c).1 w.1))),
+          (both_so _ _ w.2 ((passed_by_short_walks doc n m c).1 w.1))),
     )

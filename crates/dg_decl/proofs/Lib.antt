@@ -29,7 +29,6 @@ pub mod NodesOnce
 pub mod AllBack
 pub mod DepthLemmas
 pub mod TreesBack
-pub mod GroupTypes
 pub mod AcceptedGraph
 pub mod JudgeWords
 pub mod FoldEquations

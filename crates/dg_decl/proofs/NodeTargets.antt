@@ -2,7 +2,7 @@
 use Rattle.std.proofs.Common.{◌≡◌, inl, inr, ℕ, ◌<◌, Bool, true, false, cond, not, ◌&&◌, ◌||◌, ◌==◌, nat_lt, is_none, List, [], ◌∷◌, ◌++◌, length, map, filter, filter_map, flat_map, slice_get, Contains, Option, Some, None, option_map, option_and_then, refl, sym, ap, subst, ◌∙◌, arith}
 use Rattle.std.specs.List.{list_any, list_all, range_with_len, find as find_first}
 use Rattle.std.specs.Option.{option_map_or}
-use Rattle.std.proofs.lemmas.Bool.{false≢true, true≢false, or_cases, or_left, or_right, eq-eqb}
+use Rattle.std.proofs.lemmas.Bool.{false≢true, or_left, or_right, eq-eqb}
 use Rattle.std.proofs.lemmas.Option.{none-some, same_Some}
 use Rattle.std.proofs.lemmas.List.Elements.{Contains-append_right, Contains-append_cases}
 use Rattle.dg_lex.specs.Bytes.{Bytes}
@@ -39,12 +39,16 @@ use Rattle.dg_decl.specs.Names.{item_at, class_item_named, params_of, result_of}
 use Rattle.dg_decl.specs.Components.{class_count, chain, root_first, carries, deps_of, entries_of, header_of, bound_of}
 use Rattle.dg_decl.specs.Lookup.{bindings, is_contribution, is_declaration, is_optional, acts_in, owned, explicit_in_chain, plain_key, inside_core, inside_key, contributions_in, contributions, is_declared, is_optional_declared, opens_in, injected_scope, injected_with, injected_item, injected_base, injected, multi, found_of_core, find_without_explicit, found_among, find}
 use Rattle.dg_decl.specs.Graph.{node_of, mode_of_inner, inner_of, Dependency, asked, of_param, of_params, of_entry, of_binding, contribution_of, of_contributions, of_inside, is_nothing, deps, node_found, target, targets, forms_of, optional_forms, own_binding, own_argument, own_exposed, own_entry, first_statement, stands_first, groups_of, own_groups, kinds_at, default_kind, kinds_of, candidates}
-use Rattle.dg_decl.specs.GraphLaws.{is_optional_type, OptionalsAreNoGroups, TargetsAreCandidates}
+use Rattle.dg_decl.specs.GraphLaws.{TargetsAreCandidates}
 use Rattle.dg_decl.proofs.NodeWalks.{any_found, in_rest}
 use Rattle.dg_decl.proofs.NodeEquality.{first_so, second_so, both_so}
 use Rattle.dg_decl.proofs.MemberLemmas.{none_in, in_front, first_or_rest, the_one, in_map, out_map, in_filter, out_filter, in_flat_map, out_flat_map, out_option, out_option_map, out_and_then, out_filter_map, out_list_of, out_if, in_got, in_reverse, out_range}
 use Rattle.dg_decl.proofs.AskedForms.{is_set_form, is_map_form, is_inside_form, is_asked, request_is_asked}
 use Rattle.dg_decl.proofs.NodeCandidates.{statement_at, stands_as, chain_small, above_small, dep_small, stands_is, own_is, entries_are, contribution_made, member_is, IsOwned, chain_owned}
+
+abbrev is_optional_type : Core → Bool
+is_optional_type (core.Optional b i) = true
+is_optional_type other = false
 
 -- what a look-up leads to is a candidate
 abbrev Fits : Doc → ℕ → Key → Found → Type 0
@@ -238,17 +242,13 @@ acts_key : (doc : Doc) (o : ℕ) (p : BindKind → Bool) (k : Key) (b : Bind)
     → acts_in doc o p k b ≡ true → b.key ≡ k
 acts_key doc o p k b h = same_keys b.key k (second_so _ _ (first_so _ _ h))
 
-or_not : (a : Bool) → (a || false) ≡ true → a ≡ true
-or_not true h = refl
-or_not false h = h
-
 set_is : (doc : Doc) (c : ℕ) (q : Option Qualifier) (b : Base) (i : Inner) → c < class_count doc
     → is_set_form i ≡ true → Acts doc c is_group (key_with q (core.Set b inner.Plain))
     → Contains (candidates doc) (node_of c (node.Multi (key_with q (core.Set b i))))
 set_is doc c q b i lt form a =
     let k : Key = key_with q (core.Set b i) in
-    let w = opened doc c k a.at a.bind a.up a.among (or_left _ _ a.acts) in
-    let acts = or_not _ w.opens in
+    let w = opened doc c k a.at a.bind a.up a.among a.acts in
+    let acts = w.opens in
     let how = acts_kind doc w.at is_group (plain_key k) w.bind acts in
     let P : Key → Type 0 = λ bk. Contains (forms_of bk) k in
     let forms = subst P (sym (acts_key doc w.at is_group (plain_key k) w.bind acts)) (set_forms q b
@@ -262,8 +262,8 @@ map_is : (doc : Doc) (c : ℕ) (q : Option Qualifier) (m : MapKind) (b : Base) (
     → Contains (candidates doc) (node_of c (node.Multi (key_with q (core.Map m b i))))
 map_is doc c q m b i lt form a =
     let k : Key = key_with q (core.Map m b i) in
-    let w = opened doc c k a.at a.bind a.up a.among (or_left _ _ a.acts) in
-    let acts = or_not _ w.opens in
+    let w = opened doc c k a.at a.bind a.up a.among a.acts in
+    let acts = w.opens in
     let how = acts_kind doc w.at is_group (plain_key k) w.bind acts in
     let P : Key → Type 0 = λ bk. Contains (forms_of bk) k in
     let forms = subst P (sym (acts_key doc w.at is_group (plain_key k) w.bind acts)) (map_forms q m
@@ -273,24 +273,18 @@ map_is doc c q m b i lt form a =
 
 -- ---- optionals
 
-optional_is : (doc : Doc) → OptionalsAreNoGroups doc
-    → (c : ℕ) (q : Option Qualifier) (b : Base) (i : Inner) → c < class_count doc
+optional_is : (doc : Doc) → (c : ℕ) (q : Option Qualifier) (b : Base) (i : Inner) → c < class_count doc
     → is_inside_form i ≡ true → Acts doc c is_optional (key_with q (core.One b))
     → Contains (candidates doc) (node_of c (node.Opt (key_with q (core.Optional b i))))
-optional_is doc plain c q b i lt form a =
+optional_is doc c q b i lt form a =
     let k : Key = key_with q (core.Optional b i) in
-    let w = opened doc c k a.at a.bind a.up a.among (or_right _ _ a.acts) in
-    elim (or_cases _ _ w.opens) [
-      | inl g ↦ (let none = plain w.bind w.among (acts_kind doc w.at is_group k w.bind g) in
-          absurd (true≢false (ap (λ (k : Key). is_optional_type k.core) (sym (acts_key doc w.at
-          is_group k w.bind g)) ∙ none)))
-      | inr o ↦ (let how = acts_kind doc w.at is_optional (inside_key k) w.bind o in
-          let P : Key → Type 0 = λ bk. Contains (optional_forms bk) k in
-          let forms = subst P (sym (acts_key doc w.at is_optional (inside_key k) w.bind o))
-          (inside_forms q b i form) in
-          group_is doc c k w (node.Opt k) lt (λ s first. optional_group doc c s w.bind.kind
-          w.bind.key k how forms first))
-    ]
+    let w = opened doc c k a.at a.bind a.up a.among a.acts in
+    let how = acts_kind doc w.at is_optional (inside_key k) w.bind w.opens in
+    let P : Key → Type 0 = λ bk. Contains (optional_forms bk) k in
+    let forms = subst P (sym (acts_key doc w.at is_optional (inside_key k) w.bind w.opens))
+    (inside_forms q b i form) in
+    group_is doc c k w (node.Opt k) lt (λ s first. optional_group doc c s w.bind.kind w.bind.key k
+    how forms first)
 
 -- ---- classes with `@Inject`
 
@@ -373,42 +367,41 @@ multi_fits : (doc : Doc) (c : ℕ) (k : Key) (f : Found)
 multi_fits doc c k f e h n is = let P : Node → Type 0 = λ m. Contains (candidates doc) m in subst P
     (same_Some (node_of c (node.Multi k)) n (sym e ∙ is)) h
 
-optional_fits : (doc : Doc) → OptionalsAreNoGroups doc
-    → (c : ℕ) (q : Option Qualifier) (b : Base) (i : Inner) (d : Bool) → c < class_count doc
+optional_fits : (doc : Doc) → (c : ℕ) (q : Option Qualifier) (b : Base) (i : Inner) (d : Bool) → c < class_count doc
     → is_inside_form i ≡ true → is_optional_declared doc c (key_with q (core.Optional b i)) ≡ d
     → Fits doc c (key_with q (core.Optional b i)) (cond d found.OptionalOf found.Nothing)
 unfolding is_optional_declared
-optional_fits doc plain c q b i true lt form e = λ n is. (let P : Node → Type 0 = λ m. Contains
+optional_fits doc c q b i true lt form e = λ n is. (let P : Node → Type 0 = λ m. Contains
     (candidates doc) m in
     subst P (same_Some (node_of c (node.Opt (key_with q (core.Optional b i)))) n is) (optional_is
-    doc plain c q b i lt form (chain_acts doc c is_optional (key_with q (core.One b)) e)))
-optional_fits doc plain c q b i false lt form e = nothing_fits doc c (key_with q (core.Optional b
+    doc c q b i lt form (chain_acts doc c is_optional (key_with q (core.One b)) e)))
+optional_fits doc c q b i false lt form e = nothing_fits doc c (key_with q (core.Optional b
     i))
 
-core_fits : (doc : Doc) → OptionalsAreNoGroups doc → (c : ℕ) (q : Option Qualifier) (co : Core)
+core_fits : (doc : Doc) → (c : ℕ) (q : Option Qualifier) (co : Core)
     → c < class_count doc → is_asked co ≡ true
     → Fits doc c (key_with q co) (found_of_core doc c (key_with q co) co)
-core_fits doc plain c q (core.One b) lt asks = injected_fits doc c (key_with q (core.One b)) q b lt
-core_fits doc plain c q (core.Set b i) lt asks =
+core_fits doc c q (core.One b) lt asks = injected_fits doc c (key_with q (core.One b)) q b lt
+core_fits doc c q (core.Set b i) lt asks =
     let k : Key = key_with q (core.Set b i) in
     multi_opened doc c k (is_declared doc c k) (contributions doc c k) refl refl found.SetOf
     (λ w. multi_fits doc c k (found.SetOf (contributions doc c k)) refl (set_is doc c q b i lt
     asks w))
-core_fits doc plain c q (core.Map m b i) lt asks =
+core_fits doc c q (core.Map m b i) lt asks =
     let k : Key = key_with q (core.Map m b i) in
     multi_opened doc c k (is_declared doc c k) (contributions doc c k) refl refl found.MapOf
     (λ w. multi_fits doc c k (found.MapOf (contributions doc c k)) refl (map_is doc c q m b i
     lt asks w))
-core_fits doc plain c q (core.Optional b i) lt asks = optional_fits doc plain c q b i
+core_fits doc c q (core.Optional b i) lt asks = optional_fits doc c q b i
     (is_optional_declared doc c (key_with q (core.Optional b i))) lt asks refl
 
-find_fits : (doc : Doc) → OptionalsAreNoGroups doc → (c : ℕ) (k : Key) → c < class_count doc
+find_fits : (doc : Doc) → (c : ℕ) (k : Key) → c < class_count doc
     → is_asked k.core ≡ true → Fits doc c k (find doc c k)
 unfolding find find_without_explicit
-find_fits doc plain c k lt asks =
+find_fits doc c k lt asks =
     among_fits doc c k (explicit_in_chain doc c k) (found_of_core doc c k k.core)
     (λ o h. chain_owned doc c k o lt h)
-    (core_fits doc plain c k.qualifier k.core lt asks)
+    (core_fits doc c k.qualifier k.core lt asks)
 
 -- ---- what a node needs
 
@@ -416,34 +409,33 @@ find_fits doc plain c k lt asks =
 abbrev IsFit : Doc → Dependency → Type 0
 IsFit doc d = (n : Node) → target d ≡ Some n → Contains (candidates doc) n
 
-request_fits : (doc : Doc) → OptionalsAreNoGroups doc
-    → (c : ℕ) (param : Option Bytes) (u : TypeUse) (r : Request) (d : Dependency)
+request_fits : (doc : Doc) → (c : ℕ) (param : Option Bytes) (u : TypeUse) (r : Request) (d : Dependency)
     → c < class_count doc → request_of u ≡ Some r → asked doc c param r ≡ d → IsFit doc d
-request_fits doc plain c param u r d lt e same =
+request_fits doc c param u r d lt e same =
     let P : Dependency → Type 0 = IsFit doc in
-    subst P same (find_fits doc plain c r.key lt (request_is_asked u r e))
+    subst P same (find_fits doc c r.key lt (request_is_asked u r e))
 
-params_fit : (doc : Doc) → OptionalsAreNoGroups doc → (c i : ℕ) (d : Dependency)
+params_fit : (doc : Doc) → (c i : ℕ) (d : Dependency)
     → c < class_count doc → Contains (of_params doc c i) d → IsFit doc d
-params_fit doc plain c i d lt h =
+params_fit doc c i d lt h =
     let x = out_list_of (λ x. filter_map (of_param doc c) (params_of x)) (item_at doc i) d h in
     let p = out_filter_map (of_param doc c) (params_of x.0) d x.2 in
     let r = out_option_map (asked doc c (Some p.0.name)) (request_of p.0.shape) d p.2 in
-    request_fits doc plain c (Some p.0.name) p.0.shape r.0 d lt r.1 r.2
+    request_fits doc c (Some p.0.name) p.0.shape r.0 d lt r.1 r.2
 
-entry_fits : (doc : Doc) → OptionalsAreNoGroups doc → (c i : ℕ) (d : Dependency)
+entry_fits : (doc : Doc) → (c i : ℕ) (d : Dependency)
     → c < class_count doc → Contains (of_entry doc c i) d → IsFit doc d
-entry_fits doc plain c i d lt h =
+entry_fits doc c i d lt h =
     let r = out_option_map (asked doc c None) (option_and_then request_of (option_and_then
     result_of (item_at doc i))) d (out_option _ d h) in
     let u = out_and_then request_of (option_and_then result_of (item_at doc i)) r.0 r.1 in
-    request_fits doc plain c None u.0 r.0 d lt u.2 r.2
+    request_fits doc c None u.0 r.0 d lt u.2 r.2
 
-exposed_fits : (doc : Doc) → OptionalsAreNoGroups doc → (c dep entry : ℕ) (d : Dependency)
+exposed_fits : (doc : Doc) → (c dep entry : ℕ) (d : Dependency)
     → Contains (of_binding doc c (binding.Exposed dep entry)) d → IsFit doc d
-exposed_fits doc plain c dep entry d h =
+exposed_fits doc c dep entry d h =
     let w = out_list_of (λ o. of_entry doc o entry) (slice_get (deps_of doc c) dep) d h in
-    entry_fits doc plain w.0 entry d (dep_small doc c w.0 (in_got (deps_of doc c) dep w.0 w.1)) w.2
+    entry_fits doc w.0 entry d (dep_small doc c w.0 (in_got (deps_of doc c) dep w.0 w.1)) w.2
 
 contribution_is : (doc : Doc) (c : ℕ) (k : Key) (o : Owned) → c < class_count doc
     → Contains (contributions doc c k) o → IsOwned doc o
@@ -468,10 +460,10 @@ inside_asked : (co : Core) → is_optional_type co ≡ true → is_asked (inside
 inside_asked (core.Optional b i) h = refl
 inside_asked co h = absurd (false≢true h)
 
-inside_fits : (doc : Doc) → OptionalsAreNoGroups doc → (c : ℕ) (k : Key) (d : Dependency)
+inside_fits : (doc : Doc) → (c : ℕ) (k : Key) (d : Dependency)
     → c < class_count doc → is_optional_type k.core ≡ true → Contains (of_inside doc c k) d
     → IsFit doc d
-inside_fits doc plain c k d lt so h =
+inside_fits doc c k d lt so h =
     let one : Dependency = asked doc c None (record {
       mode = mode_of_inner (inner_of k.core);
       key =
@@ -479,7 +471,7 @@ inside_fits doc plain c k d lt so h =
     }) in
     let f = out_filter (λ (d : Dependency). not (is_nothing d.found)) (one ∷ []) d h in
     let P : Dependency → Type 0 = IsFit doc in
-    subst P {x = one} (the_one d one f.0) (find_fits doc plain c (inside_key k) lt (inside_asked
+    subst P {x = one} (the_one d one f.0) (find_fits doc c (inside_key k) lt (inside_asked
     k.core so))
 
 -- the key of an optional has the type of one
@@ -487,18 +479,18 @@ abbrev is_sound : NodeKind → Bool
 is_sound (node.Opt k) = is_optional_type k.core
 is_sound other = true
 
-needs_fit : (doc : Doc) → OptionalsAreNoGroups doc → (c : ℕ) (k : NodeKind) (d : Dependency)
+needs_fit : (doc : Doc) → (c : ℕ) (k : NodeKind) (d : Dependency)
     → c < class_count doc → is_sound k ≡ true → Contains (deps doc (node_of c k)) d → IsFit doc d
 unfolding deps
-needs_fit doc plain c (node.Bound (binding.Member i)) d lt so h = params_fit doc plain c i d lt h
-needs_fit doc plain c (node.Bound (binding.ClassItem i)) d lt so h = params_fit doc plain c i d lt h
-needs_fit doc plain c (node.Bound (binding.Arg a)) d lt so h = absurd (none_in d h)
-needs_fit doc plain c (node.Bound binding.Default) d lt so h = absurd (none_in d h)
-needs_fit doc plain c (node.Bound (binding.Exposed dep entry)) d lt so h = exposed_fits doc plain c
+needs_fit doc c (node.Bound (binding.Member i)) d lt so h = params_fit doc c i d lt h
+needs_fit doc c (node.Bound (binding.ClassItem i)) d lt so h = params_fit doc c i d lt h
+needs_fit doc c (node.Bound (binding.Arg a)) d lt so h = absurd (none_in d h)
+needs_fit doc c (node.Bound binding.Default) d lt so h = absurd (none_in d h)
+needs_fit doc c (node.Bound (binding.Exposed dep entry)) d lt so h = exposed_fits doc c
     dep entry d h
-needs_fit doc plain c (node.Multi k) d lt so h = contributions_fit doc c k d lt h
-needs_fit doc plain c (node.Opt k) d lt so h = inside_fits doc plain c k d lt so h
-needs_fit doc plain c (node.EntryOf i) d lt so h = entry_fits doc plain c i d lt h
+needs_fit doc c (node.Multi k) d lt so h = contributions_fit doc c k d lt h
+needs_fit doc c (node.Opt k) d lt so h = inside_fits doc c k d lt so h
+needs_fit doc c (node.EntryOf i) d lt so h = entry_fits doc c i d lt h
 
 -- ---- what candidates are
 
@@ -568,16 +560,16 @@ candidate_sound doc n h =
     let same : c.0 ≡ n.class = ap (λ (m : Node). m.class) k.2 in
     (omega arith, ap (λ (m : Node). is_sound m.kind) (sym k.2) ∙ kinds_sound doc c.0 k.0 k.1)
 
-pub targets_are : (doc : Doc) → OptionalsAreNoGroups doc → (m n : Node)
+pub targets_are : (doc : Doc) → (m n : Node)
     → Contains (candidates doc) m → Contains (targets doc m) n → Contains (candidates doc) n
-targets_are doc plain m n c h =
+targets_are doc m n c h =
     let d = out_filter_map target (deps doc m) n h in
     let so = candidate_sound doc m c in
-    needs_fit doc plain m.class m.kind d.0 so.0 so.1 d.1 n d.2
+    needs_fit doc m.class m.kind d.0 so.0 so.1 d.1 n d.2
 
 pub targets_are_candidates : TargetsAreCandidates
-targets_are_candidates doc plain = (
+targets_are_candidates doc = (
   λ n c. entries_are doc n c,
-  λ m n c h. targets_are doc plain m
+  λ m n c h. targets_are doc m
       n c h,
 )

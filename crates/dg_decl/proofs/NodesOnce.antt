@@ -505,7 +505,7 @@ unfolding nodes
 once_nodes doc = once_filter (is_reachable doc) (candidates doc) (once_candidates doc)
 
 pub nodes_are_the_reachable_ones : NodesAreTheReachableOnes
-nodes_are_the_reachable_ones doc plain = record {
-  each = λ n. reached_nodes doc plain n;
+nodes_are_the_reachable_ones doc = record {
+  each = λ n. reached_nodes doc n;
   once = distinct_from_once same_node node_decides (nodes doc) (once_nodes doc);
 }

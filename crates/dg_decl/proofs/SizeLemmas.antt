@@ -8,7 +8,7 @@ use Rattle.dg_decl.specs.declared.graph.Node.{Node}
 use Rattle.dg_decl.specs.Walks.{IsReached, root, step}
 use Rattle.dg_decl.specs.Graph.{EdgeTo, edges, candidates, is_reachable, nodes, targets_by, is_direct, is_called, direct_targets, called_targets, needed_targets, OnCycle}
 use Rattle.dg_decl.specs.Sizes.{depth_within, depth, size, is_shared, weight}
-use Rattle.dg_decl.specs.GraphLaws.{OptionalsAreNoGroups, HasNoCycle, DepthsAreLongestWalks, WeightsAddUp}
+use Rattle.dg_decl.specs.GraphLaws.{HasNoCycle, DepthsAreLongestWalks, WeightsAddUp}
 use Rattle.dg_decl.proofs.NodeWalks.{in_rest, reached_beyond}
 use Rattle.dg_decl.proofs.MemberLemmas.{none_in, in_front, first_or_rest, the_one, in_map, out_map, in_filter, out_filter}
 use Rattle.dg_decl.proofs.GraphLemmas.{target_is_node, leads_by}
@@ -122,9 +122,9 @@ few_nodes : (doc : Doc) → length (nodes doc) ≤ length (candidates doc)
 unfolding nodes
 few_nodes doc = kept_length (is_reachable doc) (candidates doc)
 
-needed_is_node : (doc : Doc) → OptionalsAreNoGroups doc → (a b : Node) → Contains (nodes doc) a
+needed_is_node : (doc : Doc) → (a b : Node) → Contains (nodes doc) a
     → Contains (needed_targets doc a) b → Contains (nodes doc) b
-needed_is_node doc plain a b is h = target_is_node doc plain a b is (leads_by doc _ a b h)
+needed_is_node doc a b is h = target_is_node doc a b is (leads_by doc _ a b h)
 
 more_places : {N : Type 0} (next : N → List N) (IsNode : N → Type 0) (few many : ℕ) → few ≤ many
     → Placed next IsNode few → Placed next IsNode many
@@ -135,18 +135,16 @@ more_places next IsNode few many le p = record {
   on = p.on;
 }
 
-placed : (doc : Doc) → OptionalsAreNoGroups doc
-    → Placed (needed_targets doc) (Contains (nodes doc)) (length (candidates doc))
-placed doc plain =
+placed : (doc : Doc) → Placed (needed_targets doc) (Contains (nodes doc)) (length (candidates doc))
+placed doc =
     more_places (needed_targets doc) (Contains (nodes doc)) (length (nodes doc)) (length
     (candidates doc)) (few_nodes doc)
-    (Placed-list (needed_targets doc) (nodes doc) (λ a b is h. needed_is_node doc plain a b is h))
+    (Placed-list (needed_targets doc) (nodes doc) (λ a b is h. needed_is_node doc a b is h))
 
-no_long : (doc : Doc) → OptionalsAreNoGroups doc → HasNoCycle doc → (a b : Node)
+no_long : (doc : Doc) → HasNoCycle doc → (a b : Node)
     → Contains (nodes doc) a → Walk (needed_targets doc) (length (candidates doc)) a b → ⊥
-no_long doc plain none a b is w =
-    no_long_walk (needed_targets doc) (Contains (nodes doc)) (length (candidates doc)) (placed doc
-    plain)
+no_long doc none a b is w =
+    no_long_walk (needed_targets doc) (Contains (nodes doc)) (length (candidates doc)) (placed doc)
     (λ a is c. no_closed_walk doc none a is c) a b is w
 
 -- ---- the greatest of a list
@@ -219,15 +217,15 @@ ranked doc (suc most) n none =
 
 pub depths_are_longest_walks : DepthsAreLongestWalks
 unfolding depth
-depths_are_longest_walks doc plain none n is =
-    ranked doc (length (candidates doc)) n (λ b w. no_long doc plain none n b is w)
+depths_are_longest_walks doc none n is =
+    ranked doc (length (candidates doc)) n (λ b w. no_long doc none n b is w)
 
 -- ---- weights
 
 pub weights_add_up : WeightsAddUp
 unfolding weight
-weights_add_up doc plain none =
+weights_add_up doc none =
     let one = HasOneWeight-from_placed (needed_targets doc) (size doc) (is_shared doc) (Contains
-    (nodes doc)) (length (candidates doc)) (placed doc plain)
+    (nodes doc)) (length (candidates doc)) (placed doc)
     (λ a is c. no_closed_walk doc none a is c) in
     record { add_up = λ n is. one.adds_up n is; only = λ other adds n is. one.only other adds n is }

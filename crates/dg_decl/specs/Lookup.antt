@@ -243,11 +243,11 @@ is_declared doc c k = acts_in_chain doc c is_declaration (plain_key k)
 unfoldable pub is_optional_declared : Doc → ℕ → Key → Bool
 is_optional_declared doc c k = acts_in_chain doc c is_optional (inside_key k)
 
--- a binding contributes to or declares a set, map or optional in a class
+-- a binding contributes to or declares a set or map, or declares an optional, in a class
 abbrev pub opens_in : Doc → Key → ℕ → Bind → Bool
 opens_in doc k o b =
-    acts_in doc o (λ does. is_contribution does || is_declaration does) (plain_key k) b
-    || (is_optional_core k.core && acts_in doc o is_optional (inside_key k) b)
+    if is_optional_core k.core then acts_in doc o is_optional (inside_key k) b
+    else acts_in doc o (λ does. is_contribution does || is_declaration does) (plain_key k) b
   where
     is_optional_core : Core → Bool
     is_optional_core (core.Optional b i) = true

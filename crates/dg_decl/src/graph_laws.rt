@@ -4,13 +4,7 @@
 ghost use Rattle.dg_decl.specs.GraphLaws.{CyclesByShortWalks, DepthsAreLongestWalks, EdgesAreNumbered};
 ghost use Rattle.dg_decl.specs.GraphLaws.{NodesAreTheReachableOnes, OneListOfNodes};
 ghost use Rattle.dg_decl.specs.GraphLaws.{ProductionsByShortWalks, StagesLeaveNoCycle, TargetsAreCandidates};
-ghost use Rattle.dg_decl.specs.GraphLaws.{TypesMakeNoGroupsOfOptionals, WeightsAddUp};
-
-/// Where the stage of types finds nothing, no contribution and no `multibinds` line has the type of an optional. The other
-/// laws of the graph ask for no more of a document.
-pub fn types_make_no_groups_of_optionals()
-    ensures exact { TypesMakeNoGroupsOfOptionals }
-{}
+ghost use Rattle.dg_decl.specs.GraphLaws.{WeightsAddUp};
 
 /// Each node that an entry point or a node needs is among the candidates, so that nothing is lost where nodes are listed.
 pub fn targets_are_candidates()
@@ -46,7 +40,7 @@ pub fn productions_by_short_walks()
     ensures exact { ProductionsByShortWalks }
 {}
 
-/// Where the stages of types and of bindings find nothing, no node lies on a closed walk of direct edges, nor on one of direct
+/// Where the stage of bindings finds nothing, no node lies on a closed walk of direct edges, nor on one of direct
 /// and called edges with a called one.
 pub fn stages_leave_no_cycle()
     ensures exact { StagesLeaveNoCycle }
