@@ -37,3 +37,4 @@ pub mod ExamplesTyping
 pub mod ExamplesGraph
 pub mod ExamplesStages
 pub mod ExamplesCalls
+pub mod EdgeNumbers

@@ -1,14 +1,16 @@
 -- The laws of the graph of a document.
-use Rattle.std.specs.Prelude.{◌≡◌, ◌↔◌, ℕ, IsTrue, Bool, true, false, ◌||◌, [], filter, Contains}
+use Rattle.std.specs.Prelude.{◌≡◌, ◌↔◌, ℕ, IsTrue, Bool, true, false, ◌||◌, [], filter, map, slice_get, Option, Some, Contains}
 use Rattle.dg_types.specs.declared.key.Core.{Core}
 use Rattle.dg_types.specs.declared.key.Core.TheVariants as core
 use Rattle.dg_decl.specs.declared.document.Doc.{Doc}
 use Rattle.dg_decl.specs.declared.binding.Bind.{Bind}
+use Rattle.dg_decl.specs.declared.graph.Edge.{Edge}
+use Rattle.dg_decl.specs.declared.graph.EdgeKind.{EdgeKind}
 use Rattle.dg_decl.specs.declared.graph.Node.{Node}
 use Rattle.dg_decl.specs.Lookup.{bindings, is_contribution, is_declaration}
 use Rattle.dg_decl.specs.Stages.Types.{types_stage}
 use Rattle.dg_decl.specs.Stages.Bindings.{bindings_stage}
-use Rattle.dg_decl.specs.Graph.{targets, entry_nodes, candidates, nodes, AreNodes, OnCycle, is_on_cycle, OnCall, is_on_call, needed_targets}
+use Rattle.dg_decl.specs.Graph.{targets, entry_nodes, candidates, nodes, AreNodes, OnCycle, is_on_cycle, OnCall, is_on_call, needed_targets, EdgeTo, edges, numbered_edges}
 use Rattle.dg_decl.specs.Sizes.{IsProduction, is_production, IsDepth, depth, size, is_shared, weight}
 use Rattle.dg_num.specs.Weights.{AddsUp}
 
@@ -19,8 +21,8 @@ is_optional_type other = false
 -- no contribution and no `multibinds` line has the type of an optional; the stage of types sees to that
 abbrev pub OptionalsAreNoGroups : Doc → Type 0
 OptionalsAreNoGroups doc =
-    (b : Bind) → Contains (bindings doc) b → (is_contribution b.kind || is_declaration b.kind) ≡
-    true
+    (b : Bind) → Contains (bindings doc) b
+    → (is_contribution b.kind || is_declaration b.kind) ≡ true
     → is_optional_type b.key.core ≡ false
 
 -- where the stage of types finds nothing, no set or map has the type of an optional
@@ -32,8 +34,8 @@ abbrev pub TargetsAreCandidates : Type 0
 TargetsAreCandidates =
     (doc : Doc) → OptionalsAreNoGroups doc
     → ((n : Node) → Contains (entry_nodes doc) n → Contains (candidates doc) n)
-    × ((m n : Node) → Contains (candidates doc) m → Contains (targets doc m) n → Contains
-    (candidates doc) n)
+    × ((m n : Node) → Contains (candidates doc) m → Contains (targets doc m) n
+    → Contains (candidates doc) n)
 
 -- the nodes of a document are those that are reached from its entry points, each once
 abbrev pub NodesAreTheReachableOnes : Type 0
@@ -81,3 +83,21 @@ pub record AreWeights (doc : Doc) (weights : Node → ℕ) : Type 0 where
 -- without cycles the weights add up
 abbrev pub WeightsAddUp : Type 0
 WeightsAddUp = (doc : Doc) → OptionalsAreNoGroups doc → HasNoCycle doc → AreWeights doc (weight doc)
+
+-- where an edge leads, with its kind and its parameter
+pub record Led : Type 0 where
+  pub kind : EdgeKind
+  pub param : ℕ
+  pub to : Option Node
+
+abbrev pub edge_led : EdgeTo → Led
+edge_led e = record { kind = e.kind; param = e.param; to = Some e.to }
+
+abbrev pub numbered_led : Doc → Edge → Led
+numbered_led doc e = record { kind = e.kind; param = e.param; to = slice_get (nodes doc) e.to }
+
+-- the edges of a node by numbers are its edges, each at the number of the node to which it leads
+abbrev pub EdgesAreNumbered : Type 0
+EdgesAreNumbered =
+    (doc : Doc) → OptionalsAreNoGroups doc → (n : Node) → Contains (nodes doc) n
+    → map (numbered_led doc) (numbered_edges doc n) ≡ map edge_led (edges doc n)

@@ -1,7 +1,8 @@
 //! The laws of the graph: what is reached from entry points are its nodes, and where a definition walks at most so many
 //! steps, more steps come to nothing new.
 
-ghost use Rattle.dg_decl.specs.GraphLaws.{CyclesByShortWalks, DepthsAreLongestWalks, NodesAreTheReachableOnes, OneListOfNodes};
+ghost use Rattle.dg_decl.specs.GraphLaws.{CyclesByShortWalks, DepthsAreLongestWalks, EdgesAreNumbered};
+ghost use Rattle.dg_decl.specs.GraphLaws.{NodesAreTheReachableOnes, OneListOfNodes};
 ghost use Rattle.dg_decl.specs.GraphLaws.{ProductionsByShortWalks, StagesLeaveNoCycle, TargetsAreCandidates};
 ghost use Rattle.dg_decl.specs.GraphLaws.{TypesMakeNoGroupsOfOptionals, WeightsAddUp};
 
@@ -26,6 +27,11 @@ pub fn nodes_are_the_reachable_ones()
 /// no choice.
 pub fn one_list_of_nodes()
     ensures exact { OneListOfNodes }
+{}
+
+/// The edges of a node by the numbers of nodes are all its edges, in order, each at the number of the node to which it leads.
+pub fn edges_are_numbered()
+    ensures exact { EdgesAreNumbered }
 {}
 
 /// A closed walk of direct edges, of any length, leads from a node to itself exactly where one of at most as many steps as

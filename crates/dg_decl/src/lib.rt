@@ -24,9 +24,10 @@ pub use document::{Doc, LineMeaning};
 pub use expression::{CallName, Cond, Expr, ParamCall, Tree};
 pub use graph::{BindGraph, Edge, EdgeKind, Node, NodeKind};
 pub use graph_laws::{
-    cycles_by_short_walks, depths_are_longest_walks, nodes_are_the_reachable_ones,
-    one_list_of_nodes, productions_by_short_walks, stages_leave_no_cycle, targets_are_candidates,
-    types_make_no_groups_of_optionals, weights_add_up,
+    cycles_by_short_walks, depths_are_longest_walks, edges_are_numbered,
+    nodes_are_the_reachable_ones, one_list_of_nodes, productions_by_short_walks,
+    stages_leave_no_cycle, targets_are_candidates, types_make_no_groups_of_optionals,
+    weights_add_up,
 };
 pub use item::{AskStep, Item, Mark, OpenArg, Param};
 pub use reading::{lines_and_rest, one_reading};

@@ -1,5 +1,5 @@
 -- The tests of equality are true exactly where the two are equal.
-use Rattle.std.proofs.Common.{◌≡◌, Bool, true, Option, Some, None, Decides, refl, ap, sym, ◌∙◌}
+use Rattle.std.proofs.Common.{◌≡◌, ◌↔◌, ◌&&◌, ℕ, List, Bool, true, false, Option, Some, None, IsTrue, Decides, refl, ap, sym, ◌∙◌}
 use Rattle.std.specs.Cmp.{first_so, second_so}
 use Rattle.std.specs.Cmp.Lexicographic.{bytes_decides}
 use Rattle.std.specs.Option.{option_eq}

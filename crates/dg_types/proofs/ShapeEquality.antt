@@ -9,7 +9,7 @@ use Rattle.dg_types.specs.declared.shape.Shape.TheFolds.{fold-roll-Shape, ind-Sh
 use Rattle.dg_types.specs.declared.shape.Shape.TheOpen.{Shape-F}
 use Rattle.dg_types.specs.declared.shape.Shape.TheViews.{out-roll-Shape, roll-out-Shape}
 use Rattle.dg_types.specs.declared.shape.TypeUse.{TypeUse}
-use Rattle.dg_types.specs.Equality.{same_shape, same_shape_at, same_qualifiers, same_use}
+use Rattle.dg_types.specs.Equality.{same_shape, same_shape_at, same_qualifier, same_qualifiers, same_use}
 use Rattle.dg_types.specs.Requests.{Layer}
 use Rattle.dg_types.proofs.EqualityLemmas.{qualifier_decides}
 

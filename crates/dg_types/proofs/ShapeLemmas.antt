@@ -1,5 +1,5 @@
 -- The text of a type from the texts of its parts.
-use Rattle.std.proofs.Common.{◌≡◌, ◌++◌, codes, ℕ, List, ap, sym, ◌∙◌, append_assoc}
+use Rattle.std.proofs.Common.{◌≡◌, ◌++◌, codes, ℕ, List, ap, sym, ◌∙◌, append_assoc, []}
 use Rattle.dg_types.specs.declared.shape.Shape.{Shape}
 use Rattle.dg_types.specs.declared.shape.Shape.TheOpen.{Shape-F}
 use Rattle.dg_types.specs.declared.shape.Shape.TheVariants as shape

@@ -1,5 +1,5 @@
 -- A request is written as the type that it is the request of.
-use Rattle.std.proofs.Common.{◌≡◌, Option, Some, None, IfSome, refl, ap, sym, ◌∙◌}
+use Rattle.std.proofs.Common.{◌≡◌, Option, Some, None, IfSome, refl, ap, sym, subst, ◌∙◌}
 use Rattle.std.specs.Option.{option_map}
 use Rattle.dg_types.specs.declared.key.Base.{Base}
 use Rattle.dg_types.specs.declared.key.Core.{Core}
@@ -9,6 +9,7 @@ use Rattle.dg_types.specs.declared.key.Inner.TheVariants as inner
 use Rattle.dg_types.specs.declared.key.MapKind.{MapKind}
 use Rattle.dg_types.specs.declared.key.Mode.{Mode}
 use Rattle.dg_types.specs.declared.key.Mode.TheVariants as mode
+use Rattle.dg_types.specs.declared.key.Request.{Request}
 use Rattle.dg_types.specs.declared.shape.Shape.{Shape, out-Shape, roll-Shape}
 use Rattle.dg_types.specs.declared.shape.Shape.TheOpen.{Shape-F}
 use Rattle.dg_types.specs.declared.shape.Shape.TheVariants as shape
