@@ -1,5 +1,5 @@
--- A cycle that a call in a body closes. A body's calls are known by an equation alone, so the walks are followed with
--- the calls of each node given beside the document.
+-- A cycle that a call in a body closes. A body's calls are known by an equation alone, so the walks
+-- are followed with the calls of each node given beside the document.
 use Rattle.std.proofs.Common.{◌≡◌, refl, ap}
 use Rattle.std.specs.Prelude.{ℕ, zero, suc, Bool, true, false, ◌&&◌, ◌||◌, List, [], ◌∷◌, ◌++◌, length, map, filter, filter_map, codes}
 use Rattle.std.specs.List.{list_any}

@@ -1,7 +1,8 @@
--- Small documents that decide the nodes of a graph, their order and their edges. Hilt's classes have the numbers 0 to 7,
--- and the components of a document have those from 8 on. Items are counted from 0, lines from 1.
+-- Small documents that decide the nodes of a graph, their order and their edges. Hilt's classes
+-- have the numbers 0 to 7, and the components of a document have those from 8 on. Items are counted
+-- from 0, lines from 1.
 use Rattle.std.proofs.Common.{◌≡◌, refl, ap}
-use Rattle.std.specs.Prelude.{ℕ, true, List, [], ◌∷◌, Some, None, codes, pos, map, filter_map, ◌++◌, option_map}
+use Rattle.std.specs.Prelude.{ℕ, true, List, [], ◌∷◌, Option, Some, None, codes, pos, map, filter_map, ◌++◌, option_map}
 use Rattle.dg_types.specs.declared.shape.Shape.TheVariants as shape
 use Rattle.dg_types.specs.declared.key.Key.{Key}
 use Rattle.dg_types.specs.declared.key.Base.TheVariants as base
@@ -33,8 +34,8 @@ use Rattle.dg_decl.proofs.FoldEquations.{folds}
 
 -- ---- the order of nodes
 
--- A class asks for an optional in two forms, and a producer for a set in two. The component has a bound argument and two
--- entries.
+-- A class asks for an optional in two forms, and a producer for a set in two. The component has a
+-- bound argument and two entries.
 abbrev forms : Doc
 forms =
     doc_of (item.Class true None (codes "C") (parameter (codes "o")
@@ -103,7 +104,8 @@ unfolding judges
 nodes_stand_in_order_of_classes = refl
 
 pub sites_of_these_nodes :
-    map (site_of_node exposing) (nodes exposing) ≡ codes "SingletonComponent/SingletonComponent.application"
+    map (site_of_node exposing) (nodes exposing)
+    ≡ codes "SingletonComponent/SingletonComponent.application"
     ∷ codes "SingletonComponent/Point.a"
     ∷ codes "Low/Low.n"
     ∷ codes "Low/Low.e"
@@ -191,8 +193,8 @@ pub an_entry_has_one_direct_edge :
 unfolding judges
 an_entry_has_one_direct_edge = refl
 
--- `cat` of two calls of a text of size 1 and of `text(n)`, and `get(l)`, joined: 1 for the sum, 1 for `cat`, 2 for
--- `text(n)`, and 3 for the calls
+-- `cat` of two calls of a text of size 1 and of `text(n)`, and `get(l)`, joined: 1 for the sum, 1
+-- for `cat`, 2 for `text(n)`, and 3 for the calls
 pub each_expression_counts_one : size called (node_of 8 (node.Bound (binding.Member 3))) ≡ 7
 unfolding judges
 each_expression_counts_one = simp folds refl
@@ -236,34 +238,42 @@ a_map_of_providers_defers_its_contributions = refl
 
 -- ---- sizes
 
--- a sum of the one before, taken twice; the last is made once
-abbrev adding : Bytes → Bytes → Bytes → Item
-adding n from to =
-    provides_line n (parameter (codes "x") (named_use from shape.Int)
+-- a sum of the one before, taken twice
+abbrev adding : Option Bytes → Bytes → Bytes → Bytes → Item
+adding scope n from to =
+    item.Provides None scope n (parameter (codes "x") (named_use from shape.Int)
     ∷ parameter (codes "y") (named_use from shape.Int) ∷ []) (named_use to shape.Int)
     (expr.Sum (expr.Param (codes "x")) (expr.Param (codes "y")))
 
-abbrev growing : Doc
-growing =
+-- three sums, of which the second has a scope or none
+abbrev growing : Option Bytes → Doc
+growing scope =
     doc_of (module_line (codes "M")
     ∷ provides_line (codes "a0") [] (named_use (codes "0") shape.Int) (expr.Int (pos 1))
-    ∷ adding (codes "a1") (codes "0") (codes "1")
-    ∷ adding (codes "a2") (codes "1") (codes "2")
+    ∷ adding scope (codes "a1") (codes "0") (codes "1")
+    ∷ adding None (codes "a2") (codes "1") (codes "2")
     ∷ item.End
-    ∷ component_line (codes "App") (codes "M" ∷ [])
+    ∷ item.Component (codes "Singleton" ∷ []) (codes "App") None (codes "M" ∷ [])
     ∷ item.Entry (codes "e") (named_use (codes "2") shape.Int)
     ∷ item.End
     ∷ [])
 
-abbrev weight_at : ℕ → ℕ
-weight_at i = weight growing (node_of 8 (node.Bound (binding.Member i)))
+abbrev weight_at : Option Bytes → ℕ → ℕ
+weight_at scope i = weight (growing scope) (node_of 8 (node.Bound (binding.Member i)))
 
 abbrev depth_at : ℕ → ℕ
-depth_at i = depth growing (node_of 8 (node.Bound (binding.Member i)))
+depth_at i = depth (growing None) (node_of 8 (node.Bound (binding.Member i)))
 
-pub weights_add_up : weight_at 1 ∷ weight_at 2 ∷ weight_at 3 ∷ [] ≡ 1 ∷ 5 ∷ 13 ∷ []
+pub weights_add_up :
+    weight_at None 1 ∷ weight_at None 2 ∷ weight_at None 3 ∷ [] ≡ 1 ∷ 5 ∷ 13 ∷ []
 unfolding judges
 weights_add_up = simp folds refl
+
+pub what_has_a_scope_counts_one_for_others :
+    weight_at (Some (codes "Singleton")) 2 ∷ weight_at (Some (codes "Singleton")) 3 ∷ []
+    ≡ 5 ∷ 5 ∷ []
+unfolding judges
+what_has_a_scope_counts_one_for_others = simp folds refl
 
 pub depths_count_nodes : depth_at 1 ∷ depth_at 2 ∷ depth_at 3 ∷ [] ≡ 1 ∷ 2 ∷ 3 ∷ []
 unfolding judges

@@ -1,5 +1,5 @@
--- The smallest documents that break each rule of the stages names, types, bindings, sizes, session and links, and some
--- that break none. Items are counted from 0, lines from 1.
+-- The smallest documents that break each rule of the stages names, types, bindings, sizes, session
+-- and links, and some that break none. Items are counted from 0, lines from 1.
 use Rattle.std.proofs.Common.{◌≡◌, refl, ap, ◌∙◌}
 use Rattle.std.specs.Prelude.{true, false, List, [], ◌∷◌, ◌++◌, flat_map, Some, None, codes, pos}
 use Rattle.dg_types.specs.declared.shape.Shape.TheVariants as shape
@@ -34,7 +34,8 @@ use Rattle.dg_decl.proofs.FoldEquations.{folds, expr-ByName}
 
 -- ---- names
 
--- a predefined name, a name of an earlier line, of an earlier member, of an earlier parameter and of an earlier instance
+-- a predefined name, a name of an earlier line, of an earlier member, of an earlier parameter and
+-- of an earlier instance
 abbrev repeated_names : Doc
 repeated_names =
     doc_of (item.ScopeLine (codes "Singleton")
@@ -356,7 +357,8 @@ abbrev pub calling_back : List Param → Doc
 calling_back params =
     doc_of (item.Class true None (codes "B") params []
     ∷ module_line (codes "M")
-    ∷ provides_line (codes "a") (parameter (codes "p") (provider_use (shape.Named (codes "B"))) ∷ [])
+    ∷ provides_line (codes "a")
+    (parameter (codes "p") (provider_use (shape.Named (codes "B"))) ∷ [])
     (named_use (codes "a") (shape.Named (codes "B"))) (expr.ByName by_name.Get (codes "p"))
     ∷ item.End
     ∷ component_line (codes "App") (codes "M" ∷ [])
@@ -405,7 +407,8 @@ whole_line =
     (given (codes "c") new_c ∷ given (codes "n") (expr.Int (pos 2)) ∷ [])
 
 pub instances_that_are_opened_well :
-    session_stage (opened (whole_line ∷ item.OpenLine (codes "b") (codes "Act") (Some (codes "a")) []
+    session_stage
+    (opened (whole_line ∷ item.OpenLine (codes "b") (codes "Act") (Some (codes "a")) []
     ∷ item.AskLine (codes "a") (codes "v") (step.Field (codes "f") ∷ []) ∷ [])) ≡ []
 unfolding judges
 instances_that_are_opened_well = simp folds refl
@@ -430,7 +433,8 @@ pub parents_that_do_not_fit :
 unfolding judges
 parents_that_do_not_fit = simp folds refl
 
--- an argument of another type, one that is given again, one that nobody declares, and one that is missing
+-- an argument of another type, one that is given again, one that nobody declares, and one that is
+-- missing
 pub arguments_that_do_not_fit :
     session_stage (opened (item.OpenLine (codes "a") (codes "App") None
     (given (codes "n") (expr.Text (codes "x")) ∷ [])

@@ -19,7 +19,6 @@ use Rattle.dg_decl.specs.declared.document.Doc.{Doc}
 use Rattle.dg_decl.specs.declared.item.Item.{Item}
 use Rattle.dg_decl.specs.declared.item.Item.TheVariants as item
 use Rattle.dg_decl.specs.declared.item.Param.{Param}
-use Rattle.dg_decl.specs.declared.binding.Bind.{Bind}
 use Rattle.dg_decl.specs.declared.binding.BindKind.{BindKind}
 use Rattle.dg_decl.specs.declared.binding.BindKind.TheVariants as kind
 use Rattle.dg_decl.specs.declared.binding.BindRef.{BindRef}
@@ -302,17 +301,20 @@ first_statement doc class k =
 abbrev pub stands_first : Doc → ℕ → Statement → Key → Bool
 stands_first doc class s k = option_map_or (λ i. i == s.index) (first_statement doc class k) false
 
--- the sets, maps and optionals of which a binding of this kind and key on a statement is the first contribution or
--- declaration
+-- the sets, maps and optionals of which a binding of this kind and key on a statement is the first
+-- contribution or declaration
 abbrev pub groups_of : Doc → ℕ → Statement → BindKind → Key → List NodeKind
 groups_of doc class s kind.Explicit k = []
-groups_of doc class s kind.OptionalOf k = map node.Opt (filter (stands_first doc class s) (optional_forms k))
+groups_of doc class s kind.OptionalOf k =
+    map node.Opt (filter (stands_first doc class s) (optional_forms k))
 groups_of doc class s other k = map node.Multi (filter (stands_first doc class s) (forms_of k))
 
--- the sets, maps and optionals of which a statement is the first contribution or declaration, in each of their forms
+-- the sets, maps and optionals of which a statement is the first contribution or declaration, in
+-- each of their forms
 abbrev pub own_groups : Doc → ℕ → Statement → List NodeKind
 own_groups doc class s =
-    flat_map (λ b. groups_of doc class s b.kind b.key) (filter (λ b. b.item == s.index) (bindings doc))
+    flat_map (λ b. groups_of doc class s b.kind b.key)
+    (filter (λ b. b.item == s.index) (bindings doc))
 
 -- what may stand on a statement in a class, in order: its binding, then sets, maps and optionals
 abbrev pub kinds_at : Doc → ℕ → Statement → List NodeKind
@@ -377,10 +379,11 @@ abbrev pub is_called_mode : Mode → Bool
 is_called_mode mode.ProviderLazy = false
 is_called_mode other = true
 
--- the edge of a call of the parameter at a place
+-- the edge of a call of the parameter of this index
 abbrev pub called_at : List Dependency → ℕ → Option EdgeTo
 called_at ds k =
-    option_and_then (λ d. if is_called_mode d.mode then edge_to edge.Called (suc k) d else None) (slice_get ds k)
+    option_and_then (λ d. if is_called_mode d.mode then edge_to edge.Called (suc k) d else None)
+    (slice_get ds k)
 
 -- the edge of a call of a parameter in the body
 abbrev pub called_edge : List Dependency → Bytes → Option EdgeTo
