@@ -22,8 +22,8 @@ use Rattle.dg_decl.specs.Written.{name_token, sign_token, at_token, text_token, 
 
 -- ---- the tokens of an item
 
--- a token of an item, and whether it stands right behind the one before it, whichever that is: so within a type, and the
--- `:` of a parameter
+-- a token of an item, and whether it stands right behind the one before it, whichever that is: so
+-- within a type, and the `:` of a parameter
 pub record Printed : Type 0 where
   pub token : Lexeme
   pub close : Bool
@@ -59,7 +59,8 @@ param_tokens p = apart (name_token p.name) ∷ (close (sign_token (codes ":")) �
 -- parameters in parentheses
 abbrev pub params_tokens : List Param → List Printed
 params_tokens ps =
-    apart (sign_token (codes "(")) ∷ (separated (apart (sign_token (codes ","))) (map param_tokens ps) ++ (apart (sign_token (codes ")")) ∷ []))
+    apart (sign_token (codes "(")) ∷ (separated (apart (sign_token (codes ","))) (map param_tokens
+    ps) ++ (apart (sign_token (codes ")")) ∷ []))
 
 -- `: USE` of a result
 abbrev pub result_tokens : TypeUse → List Printed
@@ -72,7 +73,8 @@ keyword_tokens w n = name_token w ∷ (name_token n ∷ [])
 -- a keyword and names behind it, where there are names
 abbrev pub clause_tokens : Lexeme → List Bytes → List Lexeme
 clause_tokens w [] = []
-clause_tokens w (n ∷ ns) = w ∷ separated (sign_token (codes ",")) (map (λ m. name_token m ∷ []) (n ∷ ns))
+clause_tokens w (n ∷ ns) = w ∷ separated (sign_token (codes ",")) (map (λ m. name_token m ∷ []) (n
+    ∷ ns))
 
 -- a keyword and a name behind it, where there is one
 abbrev pub optional_tokens : Bytes → Option Bytes → List Lexeme
@@ -107,14 +109,16 @@ abbrev pub mark_tokens : Option Mark → List Lexeme
 mark_tokens None = []
 mark_tokens (Some mark.IntoSet) = at_token (codes "IntoSet") ∷ []
 mark_tokens (Some mark.ElementsIntoSet) = at_token (codes "ElementsIntoSet") ∷ []
-mark_tokens (Some (mark.IntoMap k)) = at_token (codes "IntoMap") ∷ (at_token (map_key_name k) ∷ in_parens (map_key_token k ∷ []))
+mark_tokens (Some (mark.IntoMap k)) = at_token (codes "IntoMap") ∷ (at_token (map_key_name k)
+    ∷ in_parens (map_key_token k ∷ []))
 
 abbrev pub open_arg_tokens : OpenArg → List Lexeme
 open_arg_tokens a = name_token a.name ∷ (sign_token (codes "=") ∷ (written a.value).tokens)
 
 abbrev pub open_args_tokens : List OpenArg → List Lexeme
 open_args_tokens [] = []
-open_args_tokens (a ∷ args) = name_token (codes "with") ∷ separated (sign_token (codes ",")) (map open_arg_tokens (a ∷ args))
+open_args_tokens (a ∷ args) = name_token (codes "with") ∷ separated (sign_token (codes ",")) (map
+    open_arg_tokens (a ∷ args))
 
 abbrev pub step_tokens : AskStep → List Lexeme
 step_tokens (step.Field f) = sign_token (codes ".") ∷ (name_token f ∷ [])
@@ -130,7 +134,8 @@ at_tokens scopes = map at_token scopes
 
 -- the tokens of an item's line, in order
 unfoldable pub item_tokens : Item → List Printed
-item_tokens (item.QualifierLine n true) = all_apart (keyword_tokens (codes "qualifier") n ++ in_parens (name_token (codes "Text") ∷ []))
+item_tokens (item.QualifierLine n true) = all_apart (keyword_tokens (codes "qualifier") n
+    ++ in_parens (name_token (codes "Text") ∷ []))
 item_tokens (item.QualifierLine n false) = all_apart (keyword_tokens (codes "qualifier") n)
 item_tokens (item.ScopeLine n) = all_apart (keyword_tokens (codes "scope") n)
 item_tokens (item.Interface n) = all_apart (keyword_tokens (codes "interface") n)
@@ -146,31 +151,42 @@ item_tokens (item.TestModule install n replaces includes) =
     ++ (clause_tokens (name_token (codes "includes")) includes ++ open_brace))))
 item_tokens (item.Component scopes n parent modules) =
     all_apart (at_tokens scopes ++ (keyword_tokens (codes "component") n
-    ++ (optional_tokens (codes "in") parent ++ (clause_tokens (name_token (codes "modules")) modules ++ open_brace))))
+    ++ (optional_tokens (codes "in") parent ++ (clause_tokens (name_token (codes "modules")) modules
+    ++ open_brace))))
 item_tokens (item.DefineComponent scopes n parent) =
-    all_apart (at_tokens scopes ++ (keyword_tokens (codes "defineComponent") n ++ (keyword_tokens (codes "in") parent ++ open_brace)))
+    all_apart (at_tokens scopes ++ (keyword_tokens (codes "defineComponent") n
+    ++ (keyword_tokens (codes "in") parent ++ open_brace)))
 item_tokens (item.EntryPoint install n) =
-    all_apart (install_tokens (codes "InstallIn") install ++ (keyword_tokens (codes "entryPoint") n ++ open_brace))
+    all_apart (install_tokens (codes "InstallIn") install ++ (keyword_tokens (codes "entryPoint") n
+    ++ open_brace))
 item_tokens (item.Provides m s n ps t e) =
     all_apart (mark_tokens m ++ (scope_tokens s ++ keyword_tokens (codes "provides") n))
-    ++ (params_tokens ps ++ (result_tokens t ++ all_apart (sign_token (codes "=") ∷ (written e).tokens)))
+    ++ (params_tokens ps ++ (result_tokens t ++ all_apart (sign_token (codes "=")
+    ∷ (written e).tokens)))
 item_tokens (item.Binds m s n p t) =
     all_apart (mark_tokens m ++ (scope_tokens s ++ keyword_tokens (codes "binds") n))
     ++ (params_tokens (p ∷ []) ++ result_tokens t)
 item_tokens (item.Produces m n ps t b) =
     all_apart (mark_tokens m ++ keyword_tokens (codes "produces") n)
-    ++ (params_tokens ps ++ (result_tokens t ++ all_apart (sign_token (codes "=") ∷ (written_tree b).tokens)))
-item_tokens (item.OptionalOf n t) = all_apart (keyword_tokens (codes "bindsOptionalOf") n) ++ result_tokens t
-item_tokens (item.Multibinds n t) = all_apart (keyword_tokens (codes "multibinds") n) ++ result_tokens t
-item_tokens (item.BindsInstance n t) = all_apart (keyword_tokens (codes "bindsInstance") n) ++ result_tokens t
+    ++ (params_tokens ps ++ (result_tokens t ++ all_apart (sign_token (codes "=")
+    ∷ (written_tree b).tokens)))
+item_tokens (item.OptionalOf n t) = all_apart (keyword_tokens (codes "bindsOptionalOf") n)
+    ++ result_tokens t
+item_tokens (item.Multibinds n t) = all_apart (keyword_tokens (codes "multibinds") n)
+    ++ result_tokens t
+item_tokens (item.BindsInstance n t) = all_apart (keyword_tokens (codes "bindsInstance") n)
+    ++ result_tokens t
 item_tokens (item.DependsOn n) = all_apart (keyword_tokens (codes "dependsOn") n)
 item_tokens (item.Entry n t) = all_apart (keyword_tokens (codes "entry") n) ++ result_tokens t
 item_tokens item.End = all_apart (sign_token (codes "}") ∷ [])
 item_tokens (item.OpenLine n c parent args) =
-    all_apart (keyword_tokens (codes "open") n ++ (sign_token (codes ":") ∷ (name_token c ∷ (optional_tokens (codes "in") parent ++ open_args_tokens args))))
-item_tokens (item.Link a b) = all_apart (keyword_tokens (codes "link") a ++ keyword_tokens (codes "to") b)
+    all_apart (keyword_tokens (codes "open") n ++ (sign_token (codes ":") ∷ (name_token c
+    ∷ (optional_tokens (codes "in") parent ++ open_args_tokens args))))
+item_tokens (item.Link a b) = all_apart (keyword_tokens (codes "link") a
+    ++ keyword_tokens (codes "to") b)
 item_tokens (item.AskLine i e steps) =
-    all_apart (keyword_tokens (codes "ask") i ++ (sign_token (codes ".") ∷ (name_token e ∷ flat_map step_tokens steps)))
+    all_apart (keyword_tokens (codes "ask") i ++ (sign_token (codes ".") ∷ (name_token e
+    ∷ flat_map step_tokens steps)))
 
 -- ---- the spaces between tokens
 
@@ -179,7 +195,8 @@ abbrev pub has_space : Bytes → Bytes → Bool
 has_space before next =
     bytes_eq before (codes ",")
     || (not (is_among before (codes "(" ∷ codes "[" ∷ codes "." ∷ []))
-    && not (is_among next (codes ")" ∷ codes "]" ∷ codes "," ∷ codes "." ∷ codes "!" ∷ codes "?" ∷ codes "(" ∷ codes "[" ∷ [])))
+    && not (is_among next (codes ")" ∷ codes "]" ∷ codes "," ∷ codes "." ∷ codes "!" ∷ codes "?"
+    ∷ codes "(" ∷ codes "[" ∷ [])))
 
 -- the space before a token behind this one
 abbrev pub gap : Lexeme → Printed → Bytes

@@ -137,10 +137,12 @@ or_else inner = do
 -- what stands behind the name of a function of expressions, where this is one
 unfoldable pub call_of : Reader Expr → Bytes → Reader Expr
 call_of inner n =
-    if bytes_eq n (call_name call.Cat) then (some_in_parentheses inner >>= λ xs. pure (expr.Call call.Cat xs))
+    if bytes_eq n (call_name call.Cat) then (some_in_parentheses inner >>= λ xs. pure (expr.Call
+    call.Cat xs))
     else (if bytes_eq n (call_name call.TextOf) then call_of_one call.TextOf inner
     else (if bytes_eq n (call_name call.Size) then call_of_one call.Size inner
-    else (if bytes_eq n (call_name call.SetOf) then (in_parentheses inner >>= λ xs. pure (expr.Call call.SetOf xs))
+    else (if bytes_eq n (call_name call.SetOf) then (in_parentheses inner >>= λ xs. pure (expr.Call
+    call.SetOf xs))
     else (if bytes_eq n (call_name call.Fail) then call_of_one call.Fail inner
     else nothing))))
 
@@ -156,7 +158,8 @@ function inner n =
 
 -- a name: a function where `(` stands behind it, else a parameter
 unfoldable pub named_as : Reader Expr → Bytes → Reader Expr
-named_as inner n ls = if comes kind.Sign (codes "(") ls then function inner n ls else Some (expr.Param n, ls)
+named_as inner n ls = if comes kind.Sign (codes "(") ls then function inner n ls else Some
+    (expr.Param n, ls)
 
 unfoldable pub named : Reader Expr → Reader Expr
 named inner = name >>= named_as inner
@@ -210,12 +213,14 @@ unfoldable pub comparison : Reader Expr → Reader Cond
 comparison inner = do
   a ← sum inner
   equal ← eaten kind.Sign (codes "==")
-  if equal then (sum inner >>= λ b. pure (cond.Equal a b)) else (sign (codes "<") >> sum inner >>= λ b. pure (cond.Less a b))
+  if equal then (sum inner >>= λ b. pure (cond.Equal a b)) else (sign (codes "<") >> sum inner >>= λ
+      b. pure (cond.Less a b))
 
 -- COND
 unfoldable pub condition : Reader Expr → Reader Cond
 condition inner ls =
-    if comes_call (codes "has") ls then has ls else (if comes_call (codes "ok") ls then is_ok ls else comparison inner ls)
+    if comes_call (codes "has") ls then has ls else (if comes_call (codes "ok") ls then is_ok ls
+    else comparison inner ls)
 
 -- if COND then EXPR else EXPR
 unfoldable pub choice : Reader Expr → Reader Expr

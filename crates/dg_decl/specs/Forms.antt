@@ -22,7 +22,10 @@ use Rattle.dg_decl.specs.ExpressionForms.{constant, body, tree_body}
 
 -- [@S]
 unfoldable pub scope : Reader (Option Bytes)
-scope ls = if comes_kind kind.AtName ls then (at_name >>= λ s. pure (Some s)) ls else Some (None, ls)
+scope ls = if comes_kind kind.AtName ls then (at_name >>= λ s. pure (Some s)) ls else Some (
+  None,
+  ls,
+)
 
 -- @StringKey("k") | @IntKey(i)
 unfoldable pub map_key_mark : Reader MapKeyVal
@@ -35,8 +38,10 @@ map_key_mark = do
 unfoldable pub mark_form : Reader (Option Mark)
 mark_form ls =
     if comes kind.AtName (codes "@IntoSet") ls then (at_name >> pure (Some mark.IntoSet)) ls
-    else (if comes kind.AtName (codes "@ElementsIntoSet") ls then (at_name >> pure (Some mark.ElementsIntoSet)) ls
-    else (if comes kind.AtName (codes "@IntoMap") ls then (at_name >> map_key_mark >>= λ k. pure (Some (mark.IntoMap k))) ls
+    else (if comes kind.AtName (codes "@ElementsIntoSet") ls then (at_name >> pure (Some
+    mark.ElementsIntoSet)) ls
+    else (if comes kind.AtName (codes "@IntoMap") ls then (at_name >> map_key_mark >>= λ k. pure
+    (Some (mark.IntoMap k))) ls
     else Some (None, ls)))
 
 abbrev pub is_elements : Option Mark → Bool
@@ -51,7 +56,8 @@ qualifier_line = do
   keyword (codes "qualifier")
   n ← name
   member ← eaten kind.Sign (codes "(")
-  if member then (keyword (codes "Text") >> sign (codes ")") >> at_end >> pure (item.QualifierLine n true))
+  if member then (keyword (codes "Text") >> sign (codes ")") >> at_end >> pure (item.QualifierLine n
+      true))
       else (at_end >> pure (item.QualifierLine n false))
 
 -- scope N
@@ -275,7 +281,8 @@ link_line = do
 -- a text or an integer as the key of an entry of a map
 unfoldable pub map_key_form : Reader MapKeyVal
 map_key_form ls =
-    if comes_kind kind.Text ls then (text >>= λ k. pure (map_key.Text k)) ls else (integer >>= λ i. pure (map_key.Int i)) ls
+    if comes_kind kind.Text ls then (text >>= λ k. pure (map_key.Text k)) ls else (integer >>= λ i.
+    pure (map_key.Int i)) ls
 
 -- ["k"] | [i]
 unfoldable pub at_key : Reader AskStep
@@ -288,7 +295,8 @@ at_key = do
 -- .N | ! | ? | ["k"] | [i]
 unfoldable pub ask_step : Reader AskStep
 ask_step ls =
-    if comes kind.Sign (codes ".") ls then (sign (codes ".") >> name >>= λ f. pure (step.Field f)) ls
+    if comes kind.Sign (codes ".") ls then (sign (codes ".") >> name >>= λ f. pure (step.Field f))
+    ls
     else (if comes kind.Sign (codes "!") ls then (sign (codes "!") >> pure step.Get) ls
     else (if comes kind.Sign (codes "?") ls then (sign (codes "?") >> pure step.Inside) ls
     else at_key ls))
@@ -311,8 +319,8 @@ ask_line = do
 
 -- ---- which form a line has
 
--- The word that tells the form of a line: the first name behind at-names and what stands in parentheses. The first
--- argument: a `(` came before, and its `)` not yet
+-- The word that tells the form of a line: the first name behind at-names and what stands in
+-- parentheses. The first argument: a `(` came before, and its `)` not yet
 abbrev pub form_word : Bool → List Lexeme → Bytes
 form_word inside [] = []
 form_word true (l ∷ ls) = form_word (not (is_spelled kind.Sign (codes ")") l)) ls
@@ -328,7 +336,8 @@ outside_line w ls =
     else (if bytes_eq w (codes "scope") then scope_line ls
     else (if bytes_eq w (codes "interface") then interface_line ls
     else (if bytes_eq w (codes "class") then class_line ls
-    else (if bytes_eq w (codes "module") then (if comes kind.AtName (codes "@TestInstallIn") ls then test_module_line ls else module_line ls)
+    else (if bytes_eq w (codes "module") then (if comes kind.AtName (codes "@TestInstallIn") ls then
+    test_module_line ls else module_line ls)
     else (if bytes_eq w (codes "component") then component_line ls
     else (if bytes_eq w (codes "defineComponent") then define_component_line ls
     else (if bytes_eq w (codes "entryPoint") then entry_point_line ls

@@ -38,7 +38,8 @@ ProductionsByShortWalks =
     (doc : Doc) → (n : Node) → Contains (nodes doc) n
     → IsTrue (is_production doc n) ↔ IsProduction doc n
 
--- no node lies on a closed walk of direct edges, nor on one of direct and called edges with a called one
+-- no node lies on a closed walk of direct edges, nor on one of direct and called edges with a
+-- called one
 abbrev pub HasNoCycle : Doc → Type 0
 HasNoCycle doc = (n : Node) → Contains (nodes doc) n → (OnCycle doc n → ⊥) × (OnCall doc n → ⊥)
 

@@ -54,6 +54,7 @@ has_room kind limit x earlier = not (kind x) || nat_lt (count_by kind earlier) l
 -- an item is not one too many of its kinds
 abbrev pub is_within_limits : Item → List Item → Bool
 is_within_limits x earlier =
-    has_room is_declaration_line declaration_limit x earlier && has_room is_component_line component_limit x earlier
+    has_room is_declaration_line declaration_limit x earlier && has_room is_component_line
+    component_limit x earlier
     && has_room is_open_line open_limit x earlier && has_room is_link_line link_limit x earlier
     && has_room is_ask_line ask_limit x earlier

@@ -25,7 +25,8 @@ with_end line = line ++ (line_end ∷ [])
 abbrev pub has_no_end : Bytes → Bool
 has_no_end bytes = list_all (λ b. not (b == line_end)) bytes
 
--- The bytes are the lines, each with its LF, and then the rest; and neither a line nor the rest holds an LF.
+-- The bytes are the lines, each with its LF, and then the rest; and neither a line nor the rest
+-- holds an LF.
 pub record AreSplit (bytes : Bytes) : Type 0 where
   pub joined : flat_map with_end (lines_of bytes) ++ rest_of bytes ≡ bytes
   pub lines : list_all has_no_end (lines_of bytes) ≡ true
@@ -47,4 +48,5 @@ is_blank line = length (without_indent line) == 0
 
 -- the first two bytes that aren't spaces are `//`
 abbrev pub is_comment : Bytes → Bool
-is_comment line = slice_index (without_indent line) 0 == 47 && slice_index (without_indent line) 1 == 47
+is_comment line = slice_index (without_indent line) 0 == 47 && slice_index (without_indent line) 1
+    == 47

@@ -24,7 +24,8 @@ meaning_of_tokens line (Ok tokens) = says (item_line (lexemes line tokens))
 unfoldable pub meaning_of : Bytes → LineMeaning
 meaning_of line =
     if is_printable line
-    then (if is_blank line || is_comment line then Nothing else meaning_of_tokens line (tokens_of line))
+    then (if is_blank line || is_comment line then Nothing else meaning_of_tokens line (tokens_of
+    line))
     else Bad
 
 -- the item of a line that says one

@@ -13,7 +13,8 @@ use Rattle.dg_lex.specs.Lexemes.{Lexeme, value_of_text}
 abbrev pub Reader : Type 0 → Type 0
 Reader A = List Lexeme → Option (A × List Lexeme)
 
-abbrev pub then_reads : {A B : Type 0} → Option (A × List Lexeme) → (A → Reader B) → Option (B × List Lexeme)
+abbrev pub then_reads : {A B : Type 0} → Option (A × List Lexeme) → (A → Reader B) → Option (B
+    × List Lexeme)
 then_reads None f = None
 then_reads (Some p) f = f p.0 p.1
 
@@ -90,8 +91,8 @@ at_name = spelled kind.AtName >>= λ z. pure (drop 1 z)
 unfoldable pub text : Reader Bytes
 text = spelled kind.Text >>= λ z. pure (value_of_text z)
 
--- an integer, by its value. The test says what a reader does with lexemes that are of no line: in a line a lexeme of this
--- kind is spelled as an integer
+-- an integer, by its value. The test says what a reader does with lexemes that are of no line: in a
+-- line a lexeme of this kind is spelled as an integer
 unfoldable pub integer : Reader ℤ
 integer = spelled kind.Integer >>= λ z. if is_integer z then pure (value_of_integer z) else nothing
 
@@ -111,7 +112,8 @@ list_of member (suc n) = do
   more ← eaten kind.Sign (codes ",")
   if more then (list_of member n >>= λ xs. pure (x ∷ xs)) else pure (x ∷ [])
 
--- the most members of a list of parameters, arguments, constants or parts of `cat`, and the most steps of a path
+-- the most members of a list of parameters, arguments, constants or parts of `cat`, and the most
+-- steps of a path
 abbrev pub list_limit : ℕ
 list_limit = 32
 

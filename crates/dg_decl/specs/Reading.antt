@@ -45,19 +45,22 @@ is_good line earlier = is_good_meaning (meaning_of line) earlier
 abbrev pub is_good_at : List Bytes → ℕ → Bool
 is_good_at lines n = is_good (slice_index_or lines (n - 1) []) (items_of (take (n - 1) lines))
 
--- Line n is bad: it is a line that isn't good, or a rest without its LF, or the end where a block is still open.
+-- Line n is bad: it is a line that isn't good, or a rest without its LF, or the end where a block
+-- is still open.
 pub data IsBad (bytes : Bytes) (n : ℕ) : Type 0 where
-  bad_line : 1 ≤ n → n ≤ length (lines_of bytes) → is_good_at (lines_of bytes) n ≡ false → IsBad bytes n
+  bad_line : 1 ≤ n → n ≤ length (lines_of bytes) → is_good_at (lines_of bytes) n ≡ false
+      → IsBad bytes n
   bad_rest : n ≡ length (lines_of bytes) + 1 → rest_of bytes ≢ [] → IsBad bytes n
-  bad_end : n ≡ length (lines_of bytes) + 1 → IsSome (open_block (items_of (lines_of bytes))) → IsBad bytes n
+  bad_end : n ≡ length (lines_of bytes) + 1 → IsSome (open_block (items_of (lines_of bytes)))
+      → IsBad bytes n
 
 -- line n is the first bad one
 pub record FirstBad (bytes : Bytes) (n : ℕ) : Type 0 where
   pub is_bad : IsBad bytes n
   pub is_first : (m : ℕ) → m < n → IsBad bytes m → ⊥
 
--- The document is what the bytes say: each line is good, nothing stands behind the last of them, no block is left open,
--- and the document has the items of the lines in order, with their numbers.
+-- The document is what the bytes say: each line is good, nothing stands behind the last of them, no
+-- block is left open, and the document has the items of the lines in order, with their numbers.
 pub record Reads (bytes : Bytes) (doc : Doc) : Type 0 where
   pub each : (n : ℕ) → 1 ≤ n → n ≤ length (lines_of bytes) → is_good_at (lines_of bytes) n ≡ true
   pub no_rest : rest_of bytes ≡ []

@@ -16,13 +16,15 @@ type_depth_limit = 4
 
 -- the type of this name
 abbrev pub shape_named : Bytes → Shape
-shape_named n = if bytes_eq n (codes "Text") then shape.Text else (if bytes_eq n (codes "Int") then shape.Int else shape.Named n)
+shape_named n = if bytes_eq n (codes "Text") then shape.Text else (if bytes_eq n (codes "Int") then
+    shape.Int else shape.Named n)
 
 -- the type that this constructor makes of the types that stand behind its `<`
 unfoldable pub constructed : Reader Shape → Bytes → Reader Shape
 constructed inner n =
     if bytes_eq n (codes "Set") then (inner >>= λ t. pure (shape.Set t))
-    else (if bytes_eq n (codes "Map") then (inner >>= λ k. sign (codes ",") >> inner >>= λ v. pure (shape.Map k v))
+    else (if bytes_eq n (codes "Map") then (inner >>= λ k. sign (codes ",") >> inner >>= λ v. pure
+    (shape.Map k v))
     else (if bytes_eq n (codes "Optional") then (inner >>= λ t. pure (shape.Optional t))
     else (if bytes_eq n (codes "Provider") then (inner >>= λ t. pure (shape.Provider t))
     else (if bytes_eq n (codes "Lazy") then (inner >>= λ t. pure (shape.Lazy t))
@@ -48,7 +50,8 @@ type_form = type_within type_depth_limit
 
 -- the text in parentheses of a qualifier with a member, where there is one
 unfoldable pub member : Reader (Option Bytes)
-member ls = if comes kind.Sign (codes "(") ls then (enclosed text >>= λ t. pure (Some t)) ls else Some (None, ls)
+member ls = if comes kind.Sign (codes "(") ls then (enclosed text >>= λ t. pure (Some t)) ls else
+    Some (None, ls)
 
 -- @N | @N("x")
 unfoldable pub some_qualifier : Reader (Option Qualifier)

@@ -1,4 +1,5 @@
--- The tokens of canonical text: of types, expressions, conditions and trees, from the tokens of their parts.
+-- The tokens of canonical text: of types, expressions, conditions and trees, from the tokens of
+-- their parts.
 use Rattle.std.specs.Prelude.{ℕ, suc, Bool, true, ◌&&◌, ◌==◌, not, nat_le, nat_lt, max, List, [], ◌∷◌, ◌++◌, length, map, codes, ℤ}
 use Rattle.std.specs.Fmt.{signed_decimal}
 use Rattle.std.specs.List.{list_all}
@@ -61,7 +62,8 @@ in_parens tokens = sign_token (codes "(") ∷ (tokens ++ (sign_token (codes ")")
 
 -- ---- types
 
--- A type as it is written: its tokens, how deep it nests, and whether its names are such as a type has.
+-- A type as it is written: its tokens, how deep it nests, and whether its names are such as a type
+-- has.
 pub record WrittenType : Type 0 where
   pub tokens : List Lexeme
   pub depth : ℕ
@@ -73,7 +75,8 @@ simple_type n fits = record { tokens = name_token n ∷ []; depth = 1; fits = fi
 
 -- a constructor with what stands between its `<` and `>`
 abbrev pub constructor_of : Bytes → List Lexeme → List Lexeme
-constructor_of n parts = name_token n ∷ (sign_token (codes "<") ∷ (parts ++ (sign_token (codes ">") ∷ [])))
+constructor_of n parts = name_token n ∷ (sign_token (codes "<") ∷ (parts ++ (sign_token (codes ">")
+    ∷ [])))
 
 -- a constructor of one type
 abbrev pub type_of_one : Bytes → WrittenType → WrittenType
@@ -83,7 +86,8 @@ type_of_one n t = record { tokens = constructor_of n t.tokens; depth = suc t.dep
 abbrev pub type_written : Shape-F WrittenType → WrittenType
 type_written Shape-F.Text = simple_type (codes "Text") true
 type_written Shape-F.Int = simple_type (codes "Int") true
-type_written (Shape-F.Named n) = simple_type n (is_name n && not (is_among n (codes "Text" ∷ codes "Int" ∷ [])))
+type_written (Shape-F.Named n) = simple_type n (is_name n && not (is_among n (codes "Text"
+    ∷ codes "Int" ∷ [])))
 type_written (Shape-F.Set t) = type_of_one (codes "Set") t
 type_written (Shape-F.Map k v) = record {
   tokens = constructor_of (codes "Map") (k.tokens ++ (sign_token (codes ",") ∷ v.tokens));
@@ -101,16 +105,16 @@ written_type = fold-Shape WrittenType type_written
 
 -- ---- expressions
 
--- What an expression is to the one around it: a part that needs no parentheses anywhere, as an atom or a field of one; a
--- sum; or an `if`.
+-- What an expression is to the one around it: a part that needs no parentheses anywhere, as an atom
+-- or a field of one; a sum; or an `if`.
 pub data Level : Type 0 where
   Prim : Level
   Chain : Level
   Whole : Level
 
--- An expression as it is written: its level; its tokens; how many expressions stand around one another in it, a pair of
--- parentheses counted as one; how many fields end it, and how many parts are added in its sum; and whether its names,
--- literals and lists are such as the grammar has.
+-- An expression as it is written: its level; its tokens; how many expressions stand around one
+-- another in it, a pair of parentheses counted as one; how many fields end it, and how many parts
+-- are added in its sum; and whether its names, literals and lists are such as the grammar has.
 pub record Written : Type 0 where
   pub level : Level
   pub tokens : List Lexeme
@@ -121,7 +125,15 @@ pub record Written : Type 0 where
 
 -- an expression of no fields behind it and nothing added to it
 abbrev pub atom_of : List Lexeme → ℕ → Bool → Written
-atom_of tokens depth fits = record { level = Prim; tokens = tokens; depth = depth; fields = 0; added = 0; fits = fits }
+atom_of tokens depth fits = record {
+  level = Prim;
+  tokens = tokens;
+  depth = depth;
+  fields = 0;
+  added
+      = 0;
+  fits = fits;
+}
 
 -- in parentheses
 abbrev pub parens : Written → Written
@@ -141,7 +153,8 @@ loose_at Whole s = parens s
 abbrev pub tight : Written → Written
 tight s = tight_at s.level s
 
--- as an operand of a condition, to the left of `+`, or as a leaf of a tree: in parentheses where it is an `if`
+-- as an operand of a condition, to the left of `+`, or as a leaf of a tree: in parentheses where it
+-- is an `if`
 abbrev pub loose : Written → Written
 loose s = loose_at s.level s
 
@@ -170,7 +183,8 @@ pub record WrittenCondition : Type 0 where
 
 -- `if`, the condition, `then`, one arm, `else`, the other
 abbrev pub if_tokens : WrittenCondition → List Lexeme → List Lexeme → List Lexeme
-if_tokens c a b = word_token (codes "if") ∷ (c.tokens ++ (word_token (codes "then") ∷ (a ++ (word_token (codes "else") ∷ b))))
+if_tokens c a b = word_token (codes "if") ∷ (c.tokens ++ (word_token (codes "then") ∷ (a
+    ++ (word_token (codes "else") ∷ b))))
 
 -- an expression whose parts are written so
 abbrev pub expression_written : Expr-F WrittenCondition Written → Written
@@ -178,7 +192,8 @@ expression_written (Expr-F.Text t) = atom_of (text_token t ∷ []) 1 (list_all i
 expression_written (Expr-F.Int n) = atom_of (integer_token n ∷ []) 1 (is_in_range n)
 expression_written (Expr-F.Param p) = atom_of (name_token p ∷ []) 1 (is_name p)
 expression_written (Expr-F.New c xs) =
-    atom_of (word_token (codes "new") ∷ (name_token c ∷ list_tokens xs)) (suc (list_depth xs)) (is_name c && list_fits xs)
+    atom_of (word_token (codes "new") ∷ (name_token c ∷ list_tokens xs)) (suc (list_depth xs))
+    (is_name c && list_fits xs)
 expression_written (Expr-F.Field e f) = record {
   level = Prim;
   tokens = (tight e).tokens ++ (sign_token (codes ".") ∷ (name_token f ∷ []));
@@ -204,10 +219,13 @@ expression_written (Expr-F.If c a b) = record {
   fits = c.fits && a.fits && b.fits;
 }
 expression_written (Expr-F.Call f xs) =
-    atom_of (name_token (call_name f) ∷ list_tokens xs) (suc (list_depth xs)) (list_fits xs && count_fits f (length xs))
-expression_written (Expr-F.ByName f p) = atom_of (name_token (param_call_name f) ∷ in_parens (name_token p ∷ [])) 1 (is_name p)
+    atom_of (name_token (call_name f) ∷ list_tokens xs) (suc (list_depth xs)) (list_fits xs
+    && count_fits f (length xs))
+expression_written (Expr-F.ByName f p) = atom_of (name_token (param_call_name f)
+    ∷ in_parens (name_token p ∷ [])) 1 (is_name p)
 expression_written (Expr-F.OrElse p e) =
-    atom_of (name_token (codes "orElse") ∷ in_parens (name_token p ∷ (sign_token (codes ",") ∷ e.tokens))) (suc e.depth) (is_name p && e.fits)
+    atom_of (name_token (codes "orElse") ∷ in_parens (name_token p ∷ (sign_token (codes ",")
+    ∷ e.tokens))) (suc e.depth) (is_name p && e.fits)
 
 -- two operands with a sign between
 abbrev pub comparison_of : Bytes → Written → Written → WrittenCondition
@@ -219,7 +237,12 @@ comparison_of s a b = record {
 
 -- a function of a parameter as a condition
 abbrev pub condition_by_name : Bytes → Bytes → WrittenCondition
-condition_by_name f p = record { tokens = name_token f ∷ in_parens (name_token p ∷ []); depth = 1; fits = is_name p }
+condition_by_name f p = record {
+  tokens = name_token f ∷ in_parens (name_token p
+      ∷ []);
+  depth = 1;
+  fits = is_name p;
+}
 
 -- a condition whose parts are written so
 abbrev pub condition_written : Cond-F WrittenCondition Written → WrittenCondition
@@ -236,7 +259,8 @@ written_condition = fold-Cond WrittenCondition Written condition_written express
 
 -- ---- trees
 
--- A tree as it is written: its tokens, how many choices stand around one another in it, and whether its parts fit.
+-- A tree as it is written: its tokens, how many choices stand around one another in it, and whether
+-- its parts fit.
 pub record WrittenTree : Type 0 where
   pub tokens : List Lexeme
   pub depth : ℕ
@@ -244,8 +268,18 @@ pub record WrittenTree : Type 0 where
 
 -- a tree whose subtrees are written so
 abbrev pub tree_written : Tree-F WrittenTree → WrittenTree
-tree_written (Tree-F.Leaf e) = record { tokens = (loose (written e)).tokens; depth = 1; fits = (written e).fits }
-tree_written (Tree-F.Await p) = record { tokens = word_token (codes "await") ∷ (name_token p ∷ []); depth = 1; fits = is_name p }
+tree_written (Tree-F.Leaf e) = record {
+  tokens = (loose (written e)).tokens;
+  depth = 1;
+  fits =
+      (written e).fits;
+}
+tree_written (Tree-F.Await p) = record {
+  tokens = word_token (codes "await") ∷ (name_token p
+      ∷ []);
+  depth = 1;
+  fits = is_name p;
+}
 tree_written (Tree-F.If c a b) = record {
   tokens = if_tokens (written_condition c) a.tokens b.tokens;
   depth = suc (max a.depth b.depth);

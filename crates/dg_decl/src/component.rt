@@ -1,8 +1,8 @@
 use dg_types::{Key, Name, TypeUse};
 use sqlite_items::Items;
 
-/// A value that whoever opens an instance of a component hands in, after Dagger's bound instances: by the name of its
-/// argument, with its type.
+/// A value that whoever opens an instance of a component hands in, after Dagger's bound instances:
+/// by the name of its argument, with its type.
 #[derive(Drop)]
 pub struct Bound {
     pub name: Name,
@@ -26,7 +26,8 @@ pub struct Class {
     pub deps: Items<u32>,
 }
 
-/// The component classes, by number: Hilt's eight, and then those that the document declares, in order.
+/// The component classes, by number: Hilt's eight, and then those that the document declares, in
+/// order.
 #[derive(Drop)]
 pub struct CompTree {
     pub classes: Items<Class>,

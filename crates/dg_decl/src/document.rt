@@ -1,8 +1,8 @@
 use crate::item::Item;
 use sqlite_items::Items;
 
-/// A document: its items in order, and for each the number of its line, counted from 1. Blank lines and comments are no
-/// items. The index of an item is its number in this list, counted from 0.
+/// A document: its items in order, and for each the number of its line, counted from 1. Blank lines
+/// and comments are no items. The index of an item is its number in this list, counted from 0.
 #[derive(Drop)]
 pub struct Doc {
     pub items: Items<Item>,

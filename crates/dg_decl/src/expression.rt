@@ -88,7 +88,8 @@ pub enum Cond {
     IsOk(Name),
 }
 
-/// The body of a producer: a decision tree, whose leaves are expressions and producers to wait for. This project's own.
+/// The body of a producer: a decision tree, whose leaves are expressions and producers to wait for.
+/// This project's own.
 #[derive(Drop)]
 pub enum Tree {
     /// An expression.

@@ -43,7 +43,8 @@ pub struct Edge {
     pub to: u32,
 }
 
-/// The nodes that entry points need, in order, and the edges of each, in order. A node's number counts from 0 in this list.
+/// The nodes that entry points need, in order, and the edges of each, in order. A node's number
+/// counts from 0 in this list.
 #[derive(Drop)]
 pub struct BindGraph {
     pub nodes: Items<Node>,

@@ -56,8 +56,8 @@ pub enum Item {
     Interface {
         name: Name,
     },
-    /// [`@Inject` [`@S`]] `class N(PARAMS)` [`: N, ..`]. The parameters are the fields of its objects, and with `@Inject`
-    /// those of its constructor.
+    /// [`@Inject` [`@S`]] `class N(PARAMS)` [`: N, ..`]. The parameters are the fields of its
+    /// objects, and with `@Inject` those of its constructor.
     Class {
         inject: bool,
         scope: Option<Name>,
@@ -71,8 +71,8 @@ pub enum Item {
         name: Name,
         includes: Items<Name>,
     },
-    /// `@TestInstallIn(N) module N replaces N, ..` [`includes N, ..`] `{`. It has the member lines of a module and counts
-    /// as one in every rule.
+    /// `@TestInstallIn(N) module N replaces N, ..` [`includes N, ..`] `{`. It has the member lines
+    /// of a module and counts as one in every rule.
     TestModule {
         install: Name,
         name: Name,

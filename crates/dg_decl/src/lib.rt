@@ -1,5 +1,6 @@
-//! What a document declares, as plain data; and in specs/ what a document means up to its checks: what is read from its
-//! bytes, its canonical text, its components, bindings, graph and diagnostics.
+//! What a document declares, as plain data; and in specs/ what a document means up to its checks:
+//! what is read from its bytes, its canonical text, its components, bindings, graph and
+//! diagnostics.
 #![tactic(auto)]
 
 mod binding;

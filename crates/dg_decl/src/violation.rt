@@ -1,7 +1,8 @@
 use dg_types::Text;
 
-/// A rule that a document can break, in the order in which the rules are judged. Each stage is judged only where the
-/// stages before it found nothing. The names of five are Dagger's; the others are this project's own.
+/// A rule that a document can break, in the order in which the rules are judged. Each stage is
+/// judged only where the stages before it found nothing. The names of five are Dagger's; the others
+/// are this project's own.
 #[derive(Clone, Copy, Debug, PartialEq, Eq)]
 pub enum Rule {
     // names
@@ -43,8 +44,8 @@ pub enum Rule {
     MissingLink,
 }
 
-/// A rule that is broken, what breaks it, and what more there is to say. The site is a line, a node of the graph or a
-/// request of one.
+/// A rule that is broken, what breaks it, and what more there is to say. The site is a line, a node
+/// of the graph or a request of one.
 #[derive(Drop)]
 pub struct Violation {
     pub rule: Rule,

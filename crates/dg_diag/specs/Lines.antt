@@ -8,7 +8,8 @@ use Rattle.dg_decl.specs.declared.violation.Violation.{Violation}
 abbrev pub Bytes : Type 0
 Bytes = List ℕ
 
--- The head of a rule. Those of five are Dagger's; two rules on scopes have one, and so have two on instances.
+-- The head of a rule. Those of five are Dagger's; two rules on scopes have one, and so have two on
+-- instances.
 abbrev pub head_of : Rule → Bytes
 head_of rule.DuplicateName = codes "[Own/DuplicateName]"
 head_of rule.UnknownName = codes "[Own/UnknownName]"

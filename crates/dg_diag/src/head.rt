@@ -3,8 +3,8 @@ ghost use Rattle.dg_diag.specs.Lines as spec;
 
 use dg_decl::Rule;
 
-/// The head of a rule, with which its line begins: where the rule is from, and its name. Two rules on scopes share
-/// Dagger's head, and two on names of instances this project's.
+/// The head of a rule, with which its line begins: where the rule is from, and its name. Two rules
+/// on scopes share Dagger's head, and two on names of instances this project's.
 pub fn head_of(rule: Rule) -> &'static [u8]
     ensures exact { result.now ≡ spec.head_of rule }
 {

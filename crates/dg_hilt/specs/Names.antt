@@ -48,10 +48,11 @@ scope_names =
     ∷ codes "ViewScoped"
     ∷ []
 
--- every name that is declared before any line: those of types, of qualifiers and of marks, and Hilt's components, scopes
--- and classes of bound values
+-- every name that is declared before any line: those of types, of qualifiers and of marks, and
+-- Hilt's components, scopes and classes of bound values
 unfoldable pub predefined_names : List Bytes
-predefined_names = type_names ++ qualifier_names ++ mark_names ++ hilt_names ++ scope_names ++ default_classes
+predefined_names = type_names ++ qualifier_names ++ mark_names ++ hilt_names ++ scope_names
+    ++ default_classes
 
 -- a name is one of these
 unfoldable pub is_among : Bytes → List Bytes → Bool

@@ -15,7 +15,8 @@ pub enum HiltClass {
     ViewWithFragmentComponent,
 }
 
-/// The value that each instance of one of Hilt's components has bound: the name of its argument and its class.
+/// The value that each instance of one of Hilt's components has bound: the name of its argument and
+/// its class.
 #[derive(Clone, Copy, Debug)]
 pub struct HiltDefault {
     pub arg: &'static [u8],
@@ -157,8 +158,9 @@ pub fn default_of(c: HiltClass) -> Option<HiltDefault>
     }
 }
 
-/// The index of a name among the classes of the values that components have bound, each of which has one field, a text
-/// `name`: Application, Service, SavedStateHandle, Activity, Fragment and View in this order. None for any other name.
+/// The index of a name among the classes of the values that components have bound, each of which
+/// has one field, a text `name`: Application, Service, SavedStateHandle, Activity, Fragment and
+/// View in this order. None for any other name.
 pub fn default_class(name: &[u8]) -> Option<u32>
     ensures exact { result ≡ spec.default_class_named name.now }
 {

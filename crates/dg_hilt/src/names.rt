@@ -48,8 +48,9 @@ pub fn is_scope_name(name: &[u8]) -> bool
         || name == b"ViewScoped".as_slice()
 }
 
-/// Whether the name is declared before any line of a document: the names of types and of their constructors, JSR 330's
-/// `Named`, the words that stand behind `@`, and Hilt's components, scopes and classes of bound values.
+/// Whether the name is declared before any line of a document: the names of types and of their
+/// constructors, JSR 330's `Named`, the words that stand behind `@`, and Hilt's components, scopes
+/// and classes of bound values.
 #[tactic(auto, using(crate::proofs::NameLemmas::predefined_by))]
 pub fn is_predefined(name: &[u8]) -> bool
     ensures exact { result ≡ spec.is_among name.now spec.predefined_names }

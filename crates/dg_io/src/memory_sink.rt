@@ -23,15 +23,21 @@ impl Model for MemSink {
 
     ghost Value = { SinkState };
 
-    ghost view = { λ s. record { written = s.bytes.items; room = s.room; bad = s.calls.bad.items; calls = s.calls.made; faults = s.calls.failed } };
+    ghost view = { λ s. record {
+      written = s.bytes.items;
+      room = s.room;
+      bad = s.calls.bad.items;
+      calls = s.calls.made;
+      faults = s.calls.failed;
+    } };
 
     ghost invariant = { λ s. (vec_len s.bytes ≤ s.room) × (s.room ≤ vec_capacity s.bytes) };
 }
 
 impl MemSink {
     /// A sink that takes up to `room` bytes in all, and reserves memory for them here. The calls
-    /// whose numbers, counted from 1, stand in `bad` fail. The sink owns that list, which is dropped
-    /// with `NoMemory`. Without room no memory is needed.
+    /// whose numbers, counted from 1, stand in `bad` fail. The sink owns that list, which is
+    /// dropped with `NoMemory`. Without room no memory is needed.
     pub fn with_room(alloc: Global, room: usize, bad: Vec<u64>) -> Result<MemSink, NoMemory>
         ensures exact { IfOk result (λ sink. sink ≡ new_sink room bad.items) }
         ensures cause { OnErr result (0 < room) }
@@ -61,10 +67,12 @@ impl Sink for MemSink {
 
     ghost faults = { λ s. s.faults };
 
-    /// Takes as much of `piece` as there is room for. Takes no memory, since `with_room` reserved it.
+    /// Takes as much of `piece` as there is room for. Takes no memory, since `with_room` reserved
+    /// it.
     fn write(&mut self, piece: &[u8]) -> Result<usize, Failed>
         ensures bound { TakesFront result piece.now }
-        ensures exact { WriteAppends (Some self.old.written) (Some self.new.written) result piece.now }
+        ensures exact { WriteAppends (Some self.old.written) (Some self.new.written) result
+            piece.now }
         ensures cause { HasCause self.old.faults self.new.faults result }
 
         ensures faults { IsErr result ↔ RefusesPiece self.old piece.now }

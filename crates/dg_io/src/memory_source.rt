@@ -25,7 +25,13 @@ impl Model for MemSource {
 
     ghost Value = { SourceState };
 
-    ghost view = { λ s. record { left = drop s.start s.bytes.items; piece = s.piece; bad = s.calls.bad.items; calls = s.calls.made; faults = s.calls.failed } };
+    ghost view = { λ s. record {
+      left = drop s.start s.bytes.items;
+      piece = s.piece;
+      bad = s.calls.bad.items;
+      calls = s.calls.made;
+      faults = s.calls.failed;
+    } };
 
     ghost invariant = { λ s. (s.start ≤ vec_len s.bytes) × (1 ≤ s.piece) };
 }

@@ -17,7 +17,17 @@ pub record Tables : Type 0 where
   pub finished : ℕ
 
 abbrev pub tables : Board → Tables
-tables board = record { inputs = map (λ row. row.items) board.inputs.items; phases = board.phases.items; ends = board.ends.items; passed = board.passed.items; places = board.piles; ready = board.ready; out = board.out; finished = board.finished }
+tables board = record {
+  inputs = map (λ row. row.items) board.inputs.items;
+  phases =
+      board.phases.items;
+  ends = board.ends.items;
+  passed = board.passed.items;
+  places = board.piles;
+  ready = board.ready;
+  out = board.out;
+  finished = board.finished;
+}
 
 abbrev pub is_out : Phase → Bool
 is_out Out = true
@@ -53,16 +63,30 @@ HasEnd ends job = (last : ℕ) × (choice_at ends job ≡ Some last)
 -- jobs that were woken, or on none. The first three of these piles have the numbers that follow
 -- those of the jobs
 pub data Stands (t : Tables) (current job : ℕ) : Type 0 where
-  Sleeps : phase_of t.phases job ≡ Asleep → choice_at t.ends job ≡ None → choice_at t.places job ≡ None → Stands t current job
-  Is_out : phase_of t.phases job ≡ Out → choice_at t.ends job ≡ None → choice_at t.places job ≡ None → Stands t current job
-  Is_ready : phase_of t.phases job ≡ Wanted → choice_at t.ends job ≡ None → choice_at t.places job ≡ Some (length t.phases) → ((input : ℕ) → Needs t.inputs job input → HasEnd t.ends input) → Stands t current job
-  Misses : (input : ℕ) → phase_of t.phases job ≡ Wanted → choice_at t.ends job ≡ None → choice_at t.places job ≡ Some input → input < length t.phases → Needs t.inputs job input → IsOpen t.ends current input → Stands t current job
-  Woken : phase_of t.phases job ≡ Wanted → choice_at t.ends job ≡ None → choice_at t.places job ≡ Some (length t.phases + 2) → Stands t current job
-  Awaits : (other : ℕ) → phase_of t.phases job ≡ Waits other → choice_at t.ends job ≡ None → choice_at t.places job ≡ Some other → other < length t.phases → IsOpen t.ends current other → Stands t current job
-  Passes_on : (other : ℕ) → phase_of t.phases job ≡ Waits other → choice_at t.ends job ≡ None → choice_at t.places job ≡ Some (length t.phases + 1) → other < length t.phases → HasEnd t.ends other → Stands t current job
-  Ends : phase_of t.phases job ≡ Done → choice_at t.ends job ≡ None → choice_at t.places job ≡ Some (length t.phases + 1) → Stands t current job
-  Ended : phase_of t.phases job ≡ Done → HasEnd t.ends job → choice_at t.places job ≡ None → Stands t current job
-  Passed_on : (other : ℕ) → phase_of t.phases job ≡ Waits other → HasEnd t.ends job → choice_at t.places job ≡ None → Stands t current job
+  Sleeps : phase_of t.phases job ≡ Asleep → choice_at t.ends job ≡ None → choice_at t.places job
+      ≡ None → Stands t current job
+  Is_out : phase_of t.phases job ≡ Out → choice_at t.ends job ≡ None → choice_at t.places job ≡ None
+      → Stands t current job
+  Is_ready : phase_of t.phases job ≡ Wanted → choice_at t.ends job ≡ None → choice_at t.places job
+      ≡ Some (length t.phases) → ((input : ℕ) → Needs t.inputs job input → HasEnd t.ends input)
+      → Stands t current job
+  Misses : (input : ℕ) → phase_of t.phases job ≡ Wanted → choice_at t.ends job ≡ None
+      → choice_at t.places job ≡ Some input → input < length t.phases → Needs t.inputs job input
+      → IsOpen t.ends current input → Stands t current job
+  Woken : phase_of t.phases job ≡ Wanted → choice_at t.ends job ≡ None → choice_at t.places job
+      ≡ Some (length t.phases + 2) → Stands t current job
+  Awaits : (other : ℕ) → phase_of t.phases job ≡ Waits other → choice_at t.ends job ≡ None
+      → choice_at t.places job ≡ Some other → other < length t.phases → IsOpen t.ends current other
+      → Stands t current job
+  Passes_on : (other : ℕ) → phase_of t.phases job ≡ Waits other → choice_at t.ends job ≡ None
+      → choice_at t.places job ≡ Some (length t.phases + 1) → other < length t.phases
+      → HasEnd t.ends other → Stands t current job
+  Ends : phase_of t.phases job ≡ Done → choice_at t.ends job ≡ None → choice_at t.places job
+      ≡ Some (length t.phases + 1) → Stands t current job
+  Ended : phase_of t.phases job ≡ Done → HasEnd t.ends job → choice_at t.places job ≡ None
+      → Stands t current job
+  Passed_on : (other : ℕ) → phase_of t.phases job ≡ Waits other → HasEnd t.ends job
+      → choice_at t.places job ≡ None → Stands t current job
 
 -- the tables fit together, but for the job in hand
 pub record Fits (t : Tables) (current hand : ℕ) : Type 0 where
@@ -74,7 +98,8 @@ pub record Fits (t : Tables) (current hand : ℕ) : Type 0 where
   pub in_range : (job input : ℕ) → Needs t.inputs job input → input < length t.phases
   pub stands : (job : ℕ) → job < length t.phases → job ≢ hand → Stands t current job
   pub lasts : (job last : ℕ) → choice_at t.ends job ≡ Some last → EndsAt t.phases job last
-  pub passed : (job index : ℕ) → index < passed_of t.passed job → HasEnd t.ends (slice_index_or (inputs_of t.inputs job) index 0)
+  pub passed : (job index : ℕ) → index < passed_of t.passed job
+      → HasEnd t.ends (slice_index_or (inputs_of t.inputs job) index 0)
   pub ready : count_by (is_on (length t.phases)) t.places ≡ t.ready
   pub out : count_by is_out t.phases ≡ t.out
   pub finished : count_by is_some t.ends ≡ t.finished
@@ -85,7 +110,8 @@ NoneOn t pile = (job : ℕ) → choice_at t.places job ≢ Some pile
 
 -- the inputs of jobs that aren't asleep aren't asleep
 abbrev pub IsAwake : Tables → Type 0
-IsAwake t = (job input : ℕ) → phase_of t.phases job ≢ Asleep → Needs t.inputs job input → phase_of t.phases input ≢ Asleep
+IsAwake t = (job input : ℕ) → phase_of t.phases job ≢ Asleep → Needs t.inputs job input
+    → phase_of t.phases input ≢ Asleep
 
 -- between two calls: no job is in hand, nothing is left to pass on, and nothing is left to wake
 pub record IsCalm (t : Tables) : Type 0 where
@@ -103,20 +129,38 @@ one_if false = 0
 pub record IsFiled (old : Tables) (job : ℕ) (new : Tables) : Type 0 where
   pub pile : ℕ
   pub from : ℕ
-  pub is : new ≡ record { inputs = old.inputs; phases = old.phases; ends = old.ends; passed = slice_set old.passed job from; places = slice_set old.places job (Some pile); ready = old.ready + one_if (nat_eq pile (length old.phases)); out = old.out; finished = old.finished }
-  pub seen : (index : ℕ) → passed_of old.passed job ≤ index → index < from → HasEnd old.ends (slice_index_or (inputs_of old.inputs job) index 0)
-  pub where_to : ((pile ≡ length old.phases) × (from ≡ length (inputs_of old.inputs job))) ⊎ (Needs old.inputs job pile × (choice_at old.ends pile ≡ None))
+  pub is : new ≡ record {
+    inputs = old.inputs;
+    phases = old.phases;
+    ends = old.ends;
+    passed =
+        slice_set old.passed job from;
+    places = slice_set old.places job (Some pile);
+    ready =
+        old.ready + one_if (nat_eq pile (length old.phases));
+    out = old.out;
+    finished = old.finished;
+  }
+  pub seen : (index : ℕ) → passed_of old.passed job ≤ index → index < from
+      → HasEnd old.ends (slice_index_or (inputs_of old.inputs job) index 0)
+  pub where_to : ((pile ≡ length old.phases) × (from ≡ length (inputs_of old.inputs job))) ⊎ (Needs
+      old.inputs job pile × (choice_at old.ends pile ≡ None))
 
 -- of this row, the jobs that were asleep were woken and put on the pile of woken jobs, and nothing
 -- else changed
-pub record WakesRow (row : List ℕ) (phases : List Phase) (places : List (Option ℕ)) (phases' : List Phase) (places' : List (Option ℕ)) : Type 0 where
+pub record WakesRow (row : List ℕ) (phases : List Phase) (places : List (Option ℕ)) (phases' : List
+    Phase) (places' : List (Option ℕ)) : Type 0 where
   pub count : length phases' ≡ length phases
   pub count_places : length places' ≡ length places
-  pub each : (other : ℕ) → ((phase_of phases' other ≡ phase_of phases other) × (choice_at places' other ≡ choice_at places other)) ⊎ (Contains row other × (phase_of phases other ≡ Asleep) × (phase_of phases' other ≡ Wanted) × (choice_at places' other ≡ Some (length phases + 2)))
+  pub each : (other : ℕ) → ((phase_of phases' other ≡ phase_of phases other)
+      × (choice_at places' other ≡ choice_at places other)) ⊎ (Contains row other
+      × (phase_of phases other ≡ Asleep) × (phase_of phases' other ≡ Wanted)
+      × (choice_at places' other ≡ Some (length phases + 2)))
   pub woken : (other : ℕ) → Contains row other → phase_of phases' other ≢ Asleep
   pub ready : count_by (is_on (length phases)) places' ≡ count_by (is_on (length phases)) places
   pub out : count_by is_out phases' ≡ count_by is_out phases
-  pub left : count_by is_asleep phases' + count_by (is_on (length phases + 2)) places' ≡ count_by is_asleep phases + count_by (is_on (length phases + 2)) places
+  pub left : count_by is_asleep phases' + count_by (is_on (length phases + 2)) places'
+      ≡ count_by is_asleep phases + count_by (is_on (length phases + 2)) places
 
 -- only what the piles say changed
 pub record MovesPiles (old new : Tables) : Type 0 where
@@ -144,4 +188,15 @@ WaitsOnJob count Done = Unit {0}
 
 -- the end of a job was noted
 abbrev pub noted : Tables → ℕ → Tables
-noted t job = record { inputs = t.inputs; phases = t.phases; ends = slice_set t.ends job (end_by t.ends job (phase_of t.phases job)); passed = t.passed; places = t.places; ready = t.ready; out = t.out; finished = t.finished + 1 }
+noted t job = record {
+  inputs = t.inputs;
+  phases = t.phases;
+  ends = slice_set t.ends job (end_by
+      t.ends job (phase_of t.phases job));
+  passed = t.passed;
+  places = t.places;
+  ready = t.ready;
+  out
+      = t.out;
+  finished = t.finished + 1;
+}

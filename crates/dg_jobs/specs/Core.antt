@@ -6,10 +6,15 @@ use Rattle.dg_jobs.specs.Jobs.{Jobs, phase_of, result_at}
 
 -- the jobs of a core
 abbrev pub jobs_inside : {R : Type 0} → Inside R → Jobs R
-jobs_inside core = record { inputs = (tables core.board).inputs; phases = core.board.phases.items; results = core.results.items }
+jobs_inside core = record {
+  inputs = (tables core.board).inputs;
+  phases = core.board.phases.items;
+  results = core.results.items;
+}
 
 -- the tables of a core fit together, and only jobs that are done have a result
 pub record IsWhole {R : Type 0} (core : Inside R) : Type 0 where
   pub calm : IsCalm (tables core.board)
   pub for_results : length core.results.items ≡ length core.board.phases.items
-  pub only_done : (job : ℕ) (result : R) → result_at core.results.items job ≡ Some result → phase_of core.board.phases.items job ≡ Done
+  pub only_done : (job : ℕ) (result : R) → result_at core.results.items job ≡ Some result
+      → phase_of core.board.phases.items job ≡ Done

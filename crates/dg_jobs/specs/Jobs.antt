@@ -20,7 +20,8 @@ Needs inputs job other = Contains (inputs_of inputs job) other
 -- a walk of this many inputs leads from the job to the other
 abbrev pub Walk : List (List ℕ) → ℕ → ℕ → ℕ → Type 0
 Walk inputs zero job other = job ≡ other
-Walk inputs (suc steps) job other = (next : ℕ) × Needs inputs job next × Walk inputs steps next other
+Walk inputs (suc steps) job other = (next : ℕ) × Needs inputs job next
+    × Walk inputs steps next other
 
 -- a walk of inputs, maybe of none, leads from the job to the other
 abbrev pub Reaches : List (List ℕ) → ℕ → ℕ → Type 0
@@ -33,7 +34,8 @@ phase_of phases job = slice_index_or phases job Asleep
 -- this many forwards lead from the job to the last, which is done
 abbrev pub Follows : List Phase → ℕ → ℕ → ℕ → Type 0
 Follows phases zero job last = (job ≡ last) × (phase_of phases job ≡ Done)
-Follows phases (suc steps) job last = (next : ℕ) × (phase_of phases job ≡ Waits next) × Follows phases steps next last
+Follows phases (suc steps) job last = (next : ℕ) × (phase_of phases job ≡ Waits next)
+    × Follows phases steps next last
 
 -- the job is finished, with the result of the last
 abbrev pub EndsAt : List Phase → ℕ → ℕ → Type 0
@@ -59,7 +61,8 @@ result_at results job = slice_index_or results job None
 -- the job and all that walks of inputs lead to from it were woken, and nothing else changed
 pub record Wakes (inputs : List (List ℕ)) (job : ℕ) (before after : List Phase) : Type 0 where
   pub count : length after ≡ length before
-  pub each : (other : ℕ) → (phase_of after other ≡ phase_of before other) ⊎ (Reaches inputs job other × (phase_of before other ≡ Asleep) × (phase_of after other ≡ Wanted))
+  pub each : (other : ℕ) → (phase_of after other ≡ phase_of before other) ⊎ (Reaches inputs job
+      other × (phase_of before other ≡ Asleep) × (phase_of after other ≡ Wanted))
   pub woken : (other : ℕ) → Reaches inputs job other → phase_of after other ≢ Asleep
 
 -- the jobs after a demand
@@ -70,15 +73,29 @@ pub record IsDemanded {R : Type 0} (old : Jobs R) (job : ℕ) (new : Jobs R) : T
 
 -- the same jobs, with one in another phase
 abbrev pub with_phase : {R : Type 0} → Jobs R → ℕ → Phase → Jobs R
-with_phase jobs job phase = record { inputs = jobs.inputs; phases = slice_set jobs.phases job phase; results = jobs.results }
+with_phase jobs job phase = record {
+  inputs = jobs.inputs;
+  phases = slice_set jobs.phases job phase;
+  results = jobs.results;
+}
 
 -- the same jobs, with one done that has this result
 abbrev pub with_result : {R : Type 0} → Jobs R → ℕ → R → Jobs R
-with_result jobs job result = record { inputs = jobs.inputs; phases = slice_set jobs.phases job Done; results = slice_set jobs.results job (Some result) }
+with_result jobs job result = record {
+  inputs = jobs.inputs;
+  phases = slice_set jobs.phases job
+      Done;
+  results = slice_set jobs.results job (Some result);
+}
 
 -- the same jobs, where the result of one isn't kept
 abbrev pub without_result : {R : Type 0} → Jobs R → ℕ → Jobs R
-without_result jobs job = record { inputs = jobs.inputs; phases = jobs.phases; results = slice_set jobs.results job None }
+without_result jobs job = record {
+  inputs = jobs.inputs;
+  phases = jobs.phases;
+  results = slice_set
+      jobs.results job None;
+}
 
 -- the least job that is handed out
 pub record IsFirstOut (phases : List Phase) (job : ℕ) : Type 0 where

@@ -37,7 +37,8 @@ LeadsTo inputs phases job other = Needs inputs job other ⊎ (phase_of phases jo
 -- a walk of this many inputs and forwards leads from the job to the other
 abbrev pub Chain : List (List ℕ) → List Phase → ℕ → ℕ → ℕ → Type 0
 Chain inputs phases zero job other = job ≡ other
-Chain inputs phases (suc steps) job other = (next : ℕ) × LeadsTo inputs phases job next × Chain inputs phases steps next other
+Chain inputs phases (suc steps) job other = (next : ℕ) × LeadsTo inputs phases job next
+    × Chain inputs phases steps next other
 
 -- each input is a job, and no walk of inputs returns
 pub record AreInputs (inputs : List (List ℕ)) : Type 0 where
@@ -54,28 +55,40 @@ MayCome m s (Demand job) = job < length s.jobs.inputs
 MayCome m s (Take job) = IsReady s.jobs.inputs s.jobs.phases job
 MayCome m s (Finish job result) = IsOut s.jobs.phases job
 MayCome m s (Forward job other) =
-    IsOut s.jobs.phases job × (other < length s.jobs.inputs) × (other ≢ job) × ((steps : ℕ) → Chain s.jobs.inputs s.jobs.phases steps other job → ⊥)
+    IsOut s.jobs.phases job × (other < length s.jobs.inputs) × (other ≢ job) × ((steps : ℕ)
+    → Chain s.jobs.inputs s.jobs.phases steps other job → ⊥)
 MayCome m s (PutBack job) = IsOut s.jobs.phases job
 MayCome m s (Fill cell) =
-    (m.job_of cell ≡ None) × (IsFull s.full cell → ⊥) × ((job : ℕ) × (IsOut s.jobs.phases job ⊎ IsFinished s.jobs.phases job) × Contains (m.uses job) cell)
+    (m.job_of cell ≡ None) × (IsFull s.full cell → ⊥) × ((job : ℕ)
+    × (IsOut s.jobs.phases job ⊎ IsFinished s.jobs.phases job) × Contains (m.uses job) cell)
 
 -- what is so afterwards
 abbrev pub Comes : {R C : Type 0} → Meanings R C → State R C → Event R C → State R C → Type 0
 Comes m s (Demand job) t = IsDemanded s.jobs job t.jobs × (t.full ≡ s.full)
 Comes m s (Take job) t = (t.jobs ≡ with_phase s.jobs job Out) × (t.full ≡ s.full)
 Comes m s (Finish job result) t = (t.jobs ≡ with_result s.jobs job result) × (t.full ≡ s.full)
-Comes m s (Forward job other) t = IsDemanded (with_phase s.jobs job (Waits other)) other t.jobs × (t.full ≡ s.full)
+Comes m s (Forward job other) t = IsDemanded (with_phase s.jobs job (Waits other)) other t.jobs
+    × (t.full ≡ s.full)
 Comes m s (PutBack job) t = (t.jobs ≡ with_phase s.jobs job Wanted) × (t.full ≡ s.full)
 Comes m s (Fill cell) t = (t.jobs ≡ s.jobs) × (t.full ≡ (cell, m.content cell) ∷ s.full)
 
 -- all jobs asleep, and no cell full
 abbrev pub start : {R C : Type 0} → Meanings R C → State R C
-start m = record { jobs = record { inputs = m.inputs; phases = replicate (length m.inputs) Asleep; results = replicate (length m.inputs) None }; full = [] }
+start m = record {
+  jobs = record {
+    inputs = m.inputs;
+    phases = replicate (length m.inputs) Asleep;
+    results = replicate (length m.inputs) None;
+  };
+  full = [];
+}
 
 -- these events may come in this order from the one state, and lead to the other
-abbrev pub LegalFrom : {R C : Type 0} → Meanings R C → State R C → List (Event R C) → State R C → Type 0
+abbrev pub LegalFrom : {R C : Type 0} → Meanings R C → State R C → List (Event R C) → State R C
+    → Type 0
 LegalFrom m s [] t = t ≡ s
-LegalFrom {R} {C} m s (event ∷ events) t = (next : State R C) × MayCome m s event × Comes m s event next × LegalFrom m next events t
+LegalFrom {R} {C} m s (event ∷ events) t = (next : State R C) × MayCome m s event
+    × Comes m s event next × LegalFrom m next events t
 
 -- these events may come in this order from the start, and lead to the state
 abbrev pub Legal : {R C : Type 0} → Meanings R C → List (Event R C) → State R C → Type 0

@@ -18,7 +18,8 @@ IsIn (first ∷ jobs) job = (first ≡ job) ⊎ IsIn jobs job
 abbrev pub IsPile : List (Option ℕ) → List (Option ℕ) → ℕ → Option ℕ → List ℕ → Type 0
 IsPile place below pile top [] = top ≡ None
 IsPile place below pile top (job ∷ jobs) =
-    (top ≡ Some job) × (choice_at place job ≡ Some pile) × (IsIn jobs job → ⊥) × IsPile place below pile (choice_at below job) jobs
+    (top ≡ Some job) × (choice_at place job ≡ Some pile) × (IsIn jobs job → ⊥)
+    × IsPile place below pile (choice_at below job) jobs
 
 -- a pile has exactly the jobs that are said to be on it
 pub record HasPile (place below : List (Option ℕ)) (pile : ℕ) (top : Option ℕ) : Type 0 where

@@ -17,7 +17,8 @@ lexeme_of line t = record { kind = t.kind; spelling = spelling_of line t }
 abbrev pub lexemes : Bytes → List Token → List Lexeme
 lexemes line tokens = map (lexeme_of line) tokens
 
--- what stands between the quotes of a text, without the `\` before each `"` and `\`. The first argument: such a `\` came before
+-- what stands between the quotes of a text, without the `\` before each `"` and `\`. The first
+-- argument: such a `\` came before
 abbrev pub unescaped : Bool → Bytes → Bytes
 unescaped escaped [] = []
 unescaped true (b ∷ z) = b ∷ unescaped false z

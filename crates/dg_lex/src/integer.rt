@@ -11,7 +11,8 @@ use crate::number::value_of_digits;
 /// The number that digits write, where 64 bits signed hold it.
 fn number(digits: &[u8]) -> Option<i64>
     requires { list_all is_ascii_digit digits.now ≡ true }
-    ensures exact { SomeIff result (spec.value_of_digits digits.now < 2 ^ 63) (pos (spec.value_of_digits digits.now)) }
+    ensures exact { SomeIff result (spec.value_of_digits digits.now < 2 ^ 63) (pos
+        (spec.value_of_digits digits.now)) }
 {
     0i64.checked_add_unsigned(value_of_digits(digits)?)
 }
@@ -19,7 +20,8 @@ fn number(digits: &[u8]) -> Option<i64>
 /// The negative of that number, where 64 bits signed hold it.
 fn negative(digits: &[u8]) -> Option<i64>
     requires { list_all is_ascii_digit digits.now ≡ true }
-    ensures exact { SomeIff result (spec.value_of_digits digits.now ≤ 2 ^ 63) (neg_ℤ (pos (spec.value_of_digits digits.now))) }
+    ensures exact { SomeIff result (spec.value_of_digits digits.now ≤ 2 ^ 63) (neg_ℤ (pos
+        (spec.value_of_digits digits.now))) }
 {
     0i64.checked_sub_unsigned(value_of_digits(digits)?)
 }

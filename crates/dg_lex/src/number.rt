@@ -8,7 +8,8 @@ ghost use Rattle.dg_lex.specs.Tokens as spec;
 /// The number, where it is below 2^64.
 pub fn value_of_digits(digits: &[u8]) -> Option<u64>
     requires { list_all is_ascii_digit digits.now ≡ true }
-    ensures exact { SomeIff result (spec.value_of_digits digits.now < 2 ^ 64) (spec.value_of_digits digits.now) }
+    ensures exact { SomeIff result (spec.value_of_digits digits.now < 2 ^ 64) (spec.value_of_digits
+        digits.now) }
 {
     let mut value = 0u64;
     for digit in digits {

@@ -14,8 +14,8 @@ use std::alloc::Global;
 pub fn tokens(alloc: Global, line: &[u8]) -> Result<Vec<Token>, LexFault>
     requires { length line.now ≤ line_limit }
     ensures exact { IfOk result (λ ts. spec.tokens_of line.now ≡ Ok ts.items) }
-    // Bad comes exactly where no token begins at that byte and all before it are tokens and spaces, and NoMemory only
-    // where the line isn't blank.
+    // Bad comes exactly where no token begins at that byte and all before it are tokens and spaces,
+    // and NoMemory only where the line isn't blank.
     ensures cause { HasNoTokens (spec.tokens_of line.now) result }
 {
     let mut found = Vec::new(alloc);

@@ -22,7 +22,8 @@ fn unescaped(alloc: Global, inner: &[u8]) -> Result<Vec<u8>, AllocError>
     Ok(value)
 }
 
-/// The value of a text token, by all of its bytes. It lacks memory only where something stands between the quotes.
+/// The value of a text token, by all of its bytes. It lacks memory only where something stands
+/// between the quotes.
 #[tactic(auto, unfolding(crate::specs::Lexemes::value_of_text))]
 pub fn value_of_text(alloc: Global, spelling: &[u8]) -> Result<Vec<u8>, AllocError>
     ensures exact { IfOk result (λ v. v.items ≡ spec.value_of_text spelling.now) }

@@ -20,7 +20,8 @@ pub enum TokenKind {
     Sign,
 }
 
-/// A token, by the bytes of its line that it takes: the first is byte `from`, counted from 0, and `to` is the one after the last.
+/// A token, by the bytes of its line that it takes: the first is byte `from`, counted from 0, and
+/// `to` is the one after the last.
 #[derive(Clone, Copy, Debug, PartialEq, Eq)]
 pub struct Token {
     pub kind: TokenKind,

@@ -2,9 +2,10 @@ use dg_decl::{CallName, ParamCall};
 use dg_types::Text;
 use sqlite_items::{Boxed, Items};
 
-/// An expression by numbers: as `Expr`, with the number of each parameter, class and field in place of its name. Numbers
-/// of parameters and fields count from 0. Classes are numbered 0 to 5 for Application, Service, SavedStateHandle,
-/// Activity, Fragment and View, and from 6 on by the `class` lines in order.
+/// An expression by numbers: as `Expr`, with the number of each parameter, class and field in place
+/// of its name. Numbers of parameters and fields count from 0. Classes are numbered 0 to 5 for
+/// Application, Service, SavedStateHandle, Activity, Fragment and View, and from 6 on by the
+/// `class` lines in order.
 #[cycle(expression)]
 #[derive(Drop)]
 pub enum NExpr {

@@ -21,8 +21,8 @@ pub struct Input {
     pub slot: u32,
     /// How many parents up the other slot's instance is.
     pub level: u32,
-    /// The index of a dependency of the instance's class, counted from 0: then the other slot's instance is on the chain
-    /// of that dependency's instance, and `level` counts from there.
+    /// The index of a dependency of the instance's class, counted from 0: then the other slot's
+    /// instance is on the chain of that dependency's instance, and `level` counts from there.
     pub dep: Option<u32>,
 }
 
@@ -55,8 +55,8 @@ pub struct Slot {
     pub body: Body,
 }
 
-/// What an accepted document evaluates, by number: the slots in the order of the graph's nodes, and for each component
-/// class the slots of its entry points in the order of `Class::entries`.
+/// What an accepted document evaluates, by number: the slots in the order of the graph's nodes, and
+/// for each component class the slots of its entry points in the order of `Class::entries`.
 #[derive(Drop)]
 pub struct Plan {
     pub slots: Items<Slot>,

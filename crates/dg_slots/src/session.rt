@@ -36,7 +36,8 @@ pub struct Ask {
     pub steps: Items<PathStep>,
 }
 
-/// The `open` lines and the `ask` lines of a document, each in order; the numbers of instances count from 0.
+/// The `open` lines and the `ask` lines of a document, each in order; the numbers of instances
+/// count from 0.
 #[derive(Drop)]
 pub struct Session {
     pub insts: Items<Inst>,

@@ -1,6 +1,6 @@
 //! Deques of asks for a fixed number of workers. Each worker has a hand: it pushes asks to a deque
-//! of its own and pops them there, and steals from the deques of the others. Each ask that was pushed
-//! is taken once, or left.
+//! of its own and pops them there, and steals from the deques of the others. Each ask that was
+//! pushed is taken once, or left.
 #![tactic(auto)]
 
 mod hand;

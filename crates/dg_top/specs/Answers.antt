@@ -17,5 +17,8 @@ pub data AnswersItems (items : List Item) : Status → Bytes → Type 0 where
 
 -- all bytes were taken and this is their output without words, or the byte past the limit was taken
 pub data Answers (left new_left : Option Bytes) : Status → Bytes → Type 0 where
-  to_all : {status : Status} {text : Bytes} → (bytes : Bytes) → Consumes left new_left bytes → IsAtEnd new_left → length bytes ≤ document_limit → IsOutput [] bytes status text → Answers left new_left status text
-  to_long : TakesExactly (document_limit + 1) left new_left → Answers left new_left TooLong too_long_text
+  to_all : {status : Status} {text : Bytes} → (bytes : Bytes) → Consumes left new_left bytes
+      → IsAtEnd new_left → length bytes ≤ document_limit → IsOutput [] bytes status text
+      → Answers left new_left status text
+  to_long : TakesExactly (document_limit + 1) left new_left → Answers left new_left TooLong
+      too_long_text

@@ -18,22 +18,28 @@ too_long_text = codes "too long" ++ line_end ∷ []
 unfoldable pub bad_line_text : ℕ → Bytes
 bad_line_text n = codes "bad line " ++ decimal n ++ line_end ∷ []
 
--- These words and bytes have this status and text. The first case that fits is the only one: words that the program
--- doesn't have, then too many bytes, then a bad line, then violations, and then the report of the document.
+-- These words and bytes have this status and text. The first case that fits is the only one: words
+-- that the program doesn't have, then too many bytes, then a bad line, then violations, and then
+-- the report of the document.
 pub data IsOutput (words : List Bytes) (bytes : Bytes) : Status → Bytes → Type 0 where
   bad_words : words ≢ [] → IsOutput words bytes BadWords []
   too_long : words ≡ [] → document_limit < length bytes → IsOutput words bytes TooLong too_long_text
-  bad_line : {n : ℕ} → words ≡ [] → length bytes ≤ document_limit → FirstBad bytes n → IsOutput words bytes BadLine (bad_line_text n)
-  refused : {doc : Doc} → words ≡ [] → length bytes ≤ document_limit → Reads bytes doc → violations doc.items ≢ [] → IsOutput words bytes Refused (diagnostics doc.items)
-  ran : {doc : Doc} → words ≡ [] → length bytes ≤ document_limit → Reads bytes doc → violations doc.items ≡ [] → IsOutput words bytes Ran (report doc.items)
+  bad_line : {n : ℕ} → words ≡ [] → length bytes ≤ document_limit → FirstBad bytes n
+      → IsOutput words bytes BadLine (bad_line_text n)
+  refused : {doc : Doc} → words ≡ [] → length bytes ≤ document_limit → Reads bytes doc
+      → violations doc.items ≢ [] → IsOutput words bytes Refused (diagnostics doc.items)
+  ran : {doc : Doc} → words ≡ [] → length bytes ≤ document_limit → Reads bytes doc
+      → violations doc.items ≡ [] → IsOutput words bytes Ran (report doc.items)
 
 -- there is one status and text for these words and bytes, and no other
 pub record HasOneOutput (words : List Bytes) (bytes : Bytes) : Type 0 where
   pub status : Status
   pub text : Bytes
   pub is_output : IsOutput words bytes status text
-  pub same_status : (other : Status) (other_text : Bytes) → IsOutput words bytes other other_text → other ≡ status
-  pub same_text : (other : Status) (other_text : Bytes) → IsOutput words bytes other other_text → other_text ≡ text
+  pub same_status : (other : Status) (other_text : Bytes) → IsOutput words bytes other other_text
+      → other ≡ status
+  pub same_text : (other : Status) (other_text : Bytes) → IsOutput words bytes other other_text
+      → other_text ≡ text
 
 abbrev pub OneOutput : Type 0
 OneOutput = (words : List Bytes) (bytes : Bytes) → HasOneOutput words bytes

@@ -57,8 +57,10 @@ fn read_through<S: Source>(
     buffer: &mut [u8],
 ) -> Result<Vec<u8>, InputFault>
     requires { 0 < length buffer.old }
-    ensures exact { IfOk result (λ bytes. EndsInput (S.left source.old) (S.left source.new) (S.faults source.old) (S.faults source.new) bytes.items) }
-    ensures cause { HasInputCause (S.left source.old) (S.left source.new) (S.faults source.old) (S.faults source.new) result }
+    ensures exact { IfOk result (λ bytes. EndsInput (S.left source.old) (S.left source.new)
+        (S.faults source.old) (S.faults source.new) bytes.items) }
+    ensures cause { HasInputCause (S.left source.old) (S.left source.new) (S.faults source.old)
+        (S.faults source.new) result }
     ensures faults { S.faults source.old ≤ S.faults source.new }
     ensures bound { TakesAtMost (document_limit + 1) (S.left source.old) (S.left source.new) }
 {
@@ -74,10 +76,13 @@ fn read_through<S: Source>(
     Err(InputFault::TooLong)
 }
 
-/// All bytes of a source, which may be as many as a document has. One byte more is taken at the most.
+/// All bytes of a source, which may be as many as a document has. One byte more is taken at the
+/// most.
 pub fn read_all<S: Source>(alloc: Global, source: &mut S) -> Result<Vec<u8>, InputFault>
-    ensures exact { IfOk result (λ bytes. EndsInput (S.left source.old) (S.left source.new) (S.faults source.old) (S.faults source.new) bytes.items) }
-    ensures cause { HasInputCause (S.left source.old) (S.left source.new) (S.faults source.old) (S.faults source.new) result }
+    ensures exact { IfOk result (λ bytes. EndsInput (S.left source.old) (S.left source.new)
+        (S.faults source.old) (S.faults source.new) bytes.items) }
+    ensures cause { HasInputCause (S.left source.old) (S.left source.new) (S.faults source.old)
+        (S.faults source.new) result }
     ensures faults { S.faults source.old ≤ S.faults source.new }
     ensures bound { TakesAtMost (document_limit + 1) (S.left source.old) (S.left source.new) }
 {

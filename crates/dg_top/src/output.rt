@@ -11,7 +11,8 @@ pub fn write_all<K: Sink>(sink: &mut K, text: &[u8]) -> Result<(), Failed>
     ensures exact { OnOk result (Appends (K.written sink.old) (K.written sink.new) text.now) }
     ensures kept { OnOk result (K.faults sink.new ≡ K.faults sink.old) }
     ensures cause { OnErr result (Rose (K.faults sink.old) (K.faults sink.new)) }
-    ensures front { OnErr result ((n : ℕ) × (n < length text.now) × Appends (K.written sink.old) (K.written sink.new) (take n text.now)) }
+    ensures front { OnErr result ((n : ℕ) × (n < length text.now)
+        × Appends (K.written sink.old) (K.written sink.new) (take n text.now)) }
     ensures faults { K.faults sink.old ≤ K.faults sink.new }
 {
     let mut start = 0;

@@ -1,5 +1,5 @@
--- Which types have their place in requests, and what a type asks for where a parameter or an entry has it.
--- B is `Text`, `Int`, a class or an interface; K is `Text` or `Int`; C is a core type.
+-- Which types have their place in requests, and what a type asks for where a parameter or an entry
+-- has it. B is `Text`, `Int`, a class or an interface; K is `Text` or `Int`; C is a core type.
 use Rattle.std.specs.Prelude.{Bool, Option, Some, None, is_some}
 use Rattle.std.specs.Option.{option_map}
 use Rattle.dg_types.specs.declared.key.Base.{Base}
@@ -97,7 +97,8 @@ core_at (Shape-F.Map k t) = map_of (kind_of k) (value_of t)
 core_at (Shape-F.Optional t) = optional_of (inside_of t)
 core_at l = one_of (base_at l)
 
--- C: B, `Set<B>`, `Map<K,B>`, `Map<K,Provider<B>>`, or `Optional` of B, `Provider<B>`, `Lazy<B>` or `Provider<Lazy<B>>`
+-- C: B, `Set<B>`, `Map<K,B>`, `Map<K,Provider<B>>`, or `Optional` of B, `Provider<B>`, `Lazy<B>` or
+-- `Provider<Lazy<B>>`
 unfoldable pub core_of : Shape → Option Core
 core_of s = core_at (out-Shape s)
 
@@ -138,7 +139,8 @@ produced_of s = produced_at (out-Shape s)
 
 abbrev pub producing_at : Layer → Option Asked
 producing_at (Shape-F.Set t) = asked_as mode.Instance (set_of inner.Produced (produced_of t))
-producing_at (Shape-F.Map k t) = asked_as mode.Instance (map_of (kind_of k) (held_as inner.Produced (produced_of t)))
+producing_at (Shape-F.Map k t) = asked_as mode.Instance (map_of (kind_of k) (held_as inner.Produced
+    (produced_of t)))
 producing_at (Shape-F.Produced t) = asked_as mode.Produced (one_of (base_of t))
 producing_at (Shape-F.Producer t) = asked_as mode.Producer (one_of (base_of t))
 producing_at _ = None
@@ -166,7 +168,14 @@ is_use u = is_some (asked_of u.shape)
 
 -- What a parameter or an entry of this type asks for: the key has its qualifier and its core type.
 unfoldable pub request_of : TypeUse → Option Request
-request_of u = option_map (λ a. record { mode = a.0; key = record { qualifier = u.qualifier; core = a.1 } }) (asked_of u.shape)
+request_of u = option_map (λ a. record {
+  mode = a.0;
+  key = record {
+    qualifier = u.qualifier;
+    core =
+        a.1;
+  };
+}) (asked_of u.shape)
 
 -- ---- the type that a request is written as
 
@@ -203,7 +212,11 @@ shape_asked mode.Producer s = shape.Producer s
 
 -- the type of a parameter that makes this request
 unfoldable pub use_of : Request → TypeUse
-use_of r = record { qualifier = r.key.qualifier; shape = shape_asked r.mode (shape_of_core r.key.core) }
+use_of r = record {
+  qualifier = r.key.qualifier;
+  shape = shape_asked r.mode (shape_of_core
+      r.key.core);
+}
 
 -- the type that a key is written as
 unfoldable pub use_of_key : Key → TypeUse

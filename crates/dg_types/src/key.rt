@@ -18,8 +18,8 @@ pub enum MapKind {
     Int,
 }
 
-/// What a set holds, a map gives or an optional has inside, over its base type: the value itself, or a way to it. The
-/// order of the variants is the order in which nodes of one line stand.
+/// What a set holds, a map gives or an optional has inside, over its base type: the value itself,
+/// or a way to it. The order of the variants is the order in which nodes of one line stand.
 #[derive(Clone, Copy, Debug, PartialEq, Eq, PartialOrd, Ord, Hash)]
 pub enum Inner {
     /// The value.

@@ -14,7 +14,8 @@ pub fn tests_tell_equal()
     ensures uses { law.TellsEqual spec.same_use }
 {}
 
-/// The type that makes a request is the one that the request is written as, so no two types make one request.
+/// The type that makes a request is the one that the request is written as, so no two types make
+/// one request.
 pub fn requests_lose_nothing()
     ensures law { (asked : TypeUse) → law.IsWrittenBack asked }
 {}

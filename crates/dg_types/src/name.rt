@@ -6,8 +6,8 @@ use std::cmp::Ordering;
 use std::hash::{Hash, Hasher};
 use std::marker::Model;
 
-/// The name of something that a document declares. Contracts see the list of its bytes. Any bytes can be made a name:
-/// the reader of a document says which spellings it takes.
+/// The name of something that a document declares. Contracts see the list of its bytes. Any bytes
+/// can be made a name: the reader of a document says which spellings it takes.
 #[derive(Debug, Drop)]
 pub struct Name {
     pub bytes: Vec<u8>,

@@ -40,8 +40,8 @@ fn push_integer(out: &mut Vec<u8>, n: i64) -> Result<(), NoMemory>
     Ok(())
 }
 
-/// Writes the key of an entry of a map behind `out`: a text in quotes, or an integer in decimal. After a refusal a part
-/// may stand there.
+/// Writes the key of an entry of a map behind `out`: a text in quotes, or an integer in decimal.
+/// After a refusal a part may stand there.
 #[tactic(auto, unfolding(crate::specs::Texts::map_key_text))]
 pub fn push_map_key_text(out: &mut Vec<u8>, key: &MapKeyVal) -> Result<(), NoMemory>
     ensures exact { OnOk result (out.new.items ≡ out.old.items ++ spec.map_key_text key.now) }
@@ -52,7 +52,8 @@ pub fn push_map_key_text(out: &mut Vec<u8>, key: &MapKeyVal) -> Result<(), NoMem
     }
 }
 
-/// Writes a type behind `out`, as a document spells it without spaces. After a refusal a part may stand there.
+/// Writes a type behind `out`, as a document spells it without spaces. After a refusal a part may
+/// stand there.
 #[tactic(auto, unfolding(crate::specs::Texts::shape_text))]
 pub fn push_shape_text(out: &mut Vec<u8>, shape: &Shape) -> Result<(), NoMemory>
     ensures exact { OnOk result (out.new.items ≡ out.old.items ++ spec.shape_text shape.now) }
@@ -99,7 +100,8 @@ pub fn push_shape_text(out: &mut Vec<u8>, shape: &Shape) -> Result<(), NoMemory>
 /// Writes a qualifier behind `out`.
 #[tactic(auto, unfolding(crate::specs::Texts::qualifier_text))]
 fn push_qualifier(out: &mut Vec<u8>, qualifier: &Qualifier) -> Result<(), NoMemory>
-    ensures exact { OnOk result (out.new.items ≡ out.old.items ++ spec.qualifier_text qualifier.now) }
+    ensures exact { OnOk result (out.new.items ≡ out.old.items
+        ++ spec.qualifier_text qualifier.now) }
 {
     out.push(b'@')?;
     out.extend_from_slice(qualifier.name.as_slice())?;
@@ -140,7 +142,8 @@ pub fn push_use_text(out: &mut Vec<u8>, asked: &TypeUse) -> Result<(), NoMemory>
 
 #[tactic(auto, using(crate::proofs::ShapeLemmas::shape_texts))]
 fn push_base(out: &mut Vec<u8>, base: &Base) -> Result<(), NoMemory>
-    ensures exact { OnOk result (out.new.items ≡ out.old.items ++ spec.shape_text (shape_of_base base.now)) }
+    ensures exact { OnOk result (out.new.items ≡ out.old.items
+        ++ spec.shape_text (shape_of_base base.now)) }
 {
     match base {
         Base::Text => Ok(out.extend_from_slice(b"Text")?),
@@ -151,7 +154,8 @@ fn push_base(out: &mut Vec<u8>, base: &Base) -> Result<(), NoMemory>
 
 #[tactic(auto, using(crate::proofs::ShapeLemmas::shape_texts))]
 fn push_kind(out: &mut Vec<u8>, kind: MapKind) -> Result<(), NoMemory>
-    ensures exact { OnOk result (out.new.items ≡ out.old.items ++ spec.shape_text (shape_of_kind kind)) }
+    ensures exact { OnOk result (out.new.items ≡ out.old.items
+        ++ spec.shape_text (shape_of_kind kind)) }
 {
     match kind {
         MapKind::Text => Ok(out.extend_from_slice(b"Text")?),
@@ -161,7 +165,8 @@ fn push_kind(out: &mut Vec<u8>, kind: MapKind) -> Result<(), NoMemory>
 
 /// Writes the type that a constructor makes of a base type.
 fn push_applied(out: &mut Vec<u8>, constructor: &[u8], base: &Base) -> Result<(), NoMemory>
-    ensures exact { OnOk result (out.new.items ≡ out.old.items ++ spec.applied constructor.now (spec.shape_text (shape_of_base base.now))) }
+    ensures exact { OnOk result (out.new.items ≡ out.old.items
+        ++ spec.applied constructor.now (spec.shape_text (shape_of_base base.now))) }
 {
     out.extend_from_slice(constructor)?;
     out.push(b'<')?;
@@ -172,7 +177,8 @@ fn push_applied(out: &mut Vec<u8>, constructor: &[u8], base: &Base) -> Result<()
 
 #[tactic(auto, using(crate::proofs::ShapeLemmas::shape_texts))]
 fn push_held(out: &mut Vec<u8>, base: &Base, form: Inner) -> Result<(), NoMemory>
-    ensures exact { OnOk result (out.new.items ≡ out.old.items ++ spec.shape_text (shape_in form (shape_of_base base.now))) }
+    ensures exact { OnOk result (out.new.items ≡ out.old.items
+        ++ spec.shape_text (shape_in form (shape_of_base base.now))) }
 {
     match form {
         Inner::Plain => push_base(out, base),
@@ -190,7 +196,8 @@ fn push_held(out: &mut Vec<u8>, base: &Base, form: Inner) -> Result<(), NoMemory
 
 #[tactic(auto, using(crate::proofs::ShapeLemmas::shape_texts), unfolding(crate::specs::Requests::shape_of_core))]
 fn push_core(out: &mut Vec<u8>, core: &Core) -> Result<(), NoMemory>
-    ensures exact { OnOk result (out.new.items ≡ out.old.items ++ spec.shape_text (shape_of_core core.now)) }
+    ensures exact { OnOk result (out.new.items ≡ out.old.items
+        ++ spec.shape_text (shape_of_core core.now)) }
 {
     match core {
         Core::One(base) => push_base(out, base),
@@ -226,8 +233,8 @@ pub fn push_key_text(out: &mut Vec<u8>, key: &Key) -> Result<(), NoMemory>
     push_core(out, &key.core)
 }
 
-/// A key as diagnostics print it: the qualifier and a space, if there is one, and the type without spaces. A text in a
-/// qualifier is in quotes, with `\` before each `"` and `\`.
+/// A key as diagnostics print it: the qualifier and a space, if there is one, and the type without
+/// spaces. A text in a qualifier is in quotes, with `\` before each `"` and `\`.
 pub fn key_text(alloc: Global, key: &Key) -> Result<Vec<u8>, NoMemory>
     ensures exact { IfOk result (λ text. text.items ≡ spec.key_text key.now) }
 {

@@ -199,9 +199,10 @@ fn asked_of(alloc: Global, shape: &Shape) -> Result<Option<(Mode, Core)>, NoMemo
     }
 }
 
-/// What a parameter or an entry of this type asks for, after Dagger and its Producers: a key with the type's qualifier,
-/// and a form. None where no parameter may have the type, as one with a set of sets. Whether it may stand in a given
-/// place is another question: those with `Produced` or `Producer` are for members that produce alone.
+/// What a parameter or an entry of this type asks for, after Dagger and its Producers: a key with
+/// the type's qualifier, and a form. None where no parameter may have the type, as one with a set
+/// of sets. Whether it may stand in a given place is another question: those with `Produced` or
+/// `Producer` are for members that produce alone.
 #[tactic(auto, unfolding(crate::specs::Requests::request_of))]
 pub fn request_of(alloc: Global, asked: &TypeUse) -> Result<Option<Request>, NoMemory>
     ensures exact { IfOk result (λ request. request ≡ spec.request_of asked.now) }

@@ -2,8 +2,8 @@ use crate::name::Name;
 use crate::text::Text;
 use sqlite_items::Boxed;
 
-/// The type of a value, as a declaration spells it: any type that the grammar writes, whether or not it is allowed in
-/// its place. Types nest at most 4 deep in a document.
+/// The type of a value, as a declaration spells it: any type that the grammar writes, whether or
+/// not it is allowed in its place. Types nest at most 4 deep in a document.
 #[derive(Drop)]
 pub enum Shape {
     /// `Text`: a text of printable ASCII bytes.
@@ -20,7 +20,8 @@ pub enum Shape {
     Optional(Boxed<Shape>),
     /// `Provider<T>`, from JSR 330: gives its value anew each time it is asked.
     Provider(Boxed<Shape>),
-    /// `Lazy<T>`, from Dagger: gives its value when it is first asked, and the same one from then on.
+    /// `Lazy<T>`, from Dagger: gives its value when it is first asked, and the same one from then
+    /// on.
     Lazy(Boxed<Shape>),
     /// `Producer<T>`, from Dagger Producers: starts a producer on demand.
     Producer(Boxed<Shape>),

@@ -6,8 +6,8 @@ use std::cmp::Ordering;
 use std::hash::{Hash, Hasher};
 use std::marker::Model;
 
-/// The value of a text: what a document writes between quotes, without the `\` that it puts before a quote or another
-/// `\`. Contracts see the list of its bytes.
+/// The value of a text: what a document writes between quotes, without the `\` that it puts before
+/// a quote or another `\`. Contracts see the list of its bytes.
 #[derive(Debug, Drop)]
 pub struct Text {
     pub bytes: Vec<u8>,
