@@ -1,6 +1,6 @@
 use std::alloc::{AllocError, AllocFailed};
 
-/// There was no memory for what a call makes. What was lent to the call is as it was before.
+/// There was no memory for what a call makes.
 #[derive(Clone, Copy, Debug, PartialEq, Eq)]
 pub struct NoMemory;
 
