@@ -320,6 +320,10 @@ exposed_of doc c =
     flat_map (λ d. filter_map (exposed_as doc d.0) (entries_of doc d.1))
     (enumerate_from 0 (deps_of doc c))
 
+-- the same of each class, in the order of their numbers
+unfoldable pub exposed_by_class : Doc → List (List Exposed)
+exposed_by_class doc = map (exposed_of doc) (range_with_len 0 (class_count doc))
+
 -- ---- the whole tree
 
 abbrev pub class_of_number : Doc → ℕ → Class

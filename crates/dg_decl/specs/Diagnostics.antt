@@ -27,6 +27,13 @@ first_found ((v ∷ vs) ∷ later) = v ∷ vs
 unfoldable pub diagnostics : Doc → List Violation
 diagnostics doc = first_found (stages doc)
 
+-- the stages up to that of dependencies find nothing
+pub record PassesDependencies (doc : Doc) : Type 0 where
+  pub names : names_stage doc ≡ []
+  pub types : types_stage doc ≡ []
+  pub components : components_stage doc ≡ []
+  pub dependencies : dependencies_stage doc ≡ []
+
 -- a document breaks no rule
 abbrev pub IsAccepted : Doc → Type 0
 IsAccepted doc = diagnostics doc ≡ []

@@ -412,6 +412,10 @@ numbered_edges doc n =
     (number_of (nodes doc) e.to))
     (edges doc n)
 
+-- the same of each node, in order
+unfoldable pub edge_lists : Doc → List (List Edge)
+edge_lists doc = map (numbered_edges doc) (nodes doc)
+
 -- ---- closed walks
 
 abbrev pub is_direct : EdgeTo → Bool

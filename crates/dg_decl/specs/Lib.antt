@@ -14,6 +14,7 @@ pub mod Canonical
 pub mod Sites
 pub mod Names
 pub mod Components
+pub mod Bounds
 pub mod Lookup
 pub mod Stages
 pub mod Bodies

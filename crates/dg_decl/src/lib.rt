@@ -12,6 +12,7 @@ mod expression;
 mod graph;
 mod graph_laws;
 mod item;
+mod parts;
 mod reading;
 mod violation;
 
@@ -30,6 +31,7 @@ pub use graph_laws::{
     stages_leave_no_cycle, targets_are_candidates, weights_add_up,
 };
 pub use item::{AskStep, Item, Mark, OpenArg, Param};
+pub use parts::open_behind;
 pub use reading::{lines_and_rest, one_reading};
 pub use violation::{Rule, Violation};
 

@@ -1,0 +1,8 @@
+//! The statements of a document and the names that they declare, in tables that are made once.
+#![tactic(auto)]
+
+mod names;
+mod statement;
+
+pub use names::Names;
+pub use statement::Statement;
