@@ -2,5 +2,8 @@
 #![tactic(auto)]
 
 mod document;
+mod expression;
+mod line;
+mod shape;
 
 pub use document::print_doc;
