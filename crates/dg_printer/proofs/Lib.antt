@@ -1,3 +1,4 @@
 pub mod Appending
 pub mod TypeLemmas
 pub mod ExpressionLemmas
+pub mod ItemLemmas

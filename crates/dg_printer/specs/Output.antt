@@ -1,16 +1,18 @@
 -- A text to which tokens are appended, each with the space before it.
-use Rattle.std.specs.Prelude.{Bool, true, false, not, ◌&&◌, if◌then◌else◌, List, [], ◌∷◌, ◌++◌, map, codes}
+use Rattle.std.specs.Prelude.{Bool, true, false, not, ◌&&◌, if◌then◌else◌, List, [], ◌∷◌, ◌++◌, map, Option, codes}
 use Rattle.std.specs.Str.{bytes_eq}
 use Rattle.dg_types.specs.declared.shape.Shape.{Shape}
+use Rattle.dg_types.specs.declared.shape.TypeUse.{TypeUse}
 use Rattle.dg_lex.specs.Bytes.{Bytes, is_among}
 use Rattle.dg_lex.specs.Lexemes.{Lexeme}
 use Rattle.dg_decl.specs.declared.expression.Expr.{Expr}
 use Rattle.dg_decl.specs.declared.expression.Cond.{Cond}
 use Rattle.dg_decl.specs.declared.expression.Tree.{Tree}
+use Rattle.dg_decl.specs.declared.item.Mark.{Mark}
 use Rattle.dg_decl.specs.declared.item.Param.{Param}
 use Rattle.dg_decl.specs.declared.item.OpenArg.{OpenArg}
 use Rattle.dg_decl.specs.declared.item.AskStep.{AskStep}
-use Rattle.dg_decl.specs.Canonical.{Printed, all_apart, close, type_tokens, param_tokens, open_arg_tokens, step_tokens}
+use Rattle.dg_decl.specs.Canonical.{Printed, all_apart, close, type_tokens, param_tokens, params_tokens, result_tokens, mark_tokens, scope_tokens, keyword_tokens, open_arg_tokens, step_tokens}
 use Rattle.dg_decl.specs.Written.{Level, Prim, Chain, Whole, name_token, in_parens, written_type, written, written_condition, written_tree}
 use Rattle.dg_printer.specs.declared.line.After.{After}
 use Rattle.dg_printer.specs.declared.line.After.TheVariants as after
@@ -113,6 +115,17 @@ with_constructor l first n = with_token (with_token l first n) true (codes "<")
 -- a function's name and a parameter's in parentheses
 abbrev pub with_by_name : Output → Bytes → Bytes → Output
 with_by_name l f p = spelled l (name_token f ∷ in_parens (name_token p ∷ []))
+
+-- what the line of a member with parameters begins with
+abbrev pub with_head : Output → Option Mark → Option Bytes → Bytes → Bytes → List Param → TypeUse
+    → Output
+with_head l m s w n ps t =
+    pushed (pushed (spelled (spelled (spelled l (mark_tokens m)) (scope_tokens s)) (keyword_tokens w
+    n)) (params_tokens ps)) (result_tokens t)
+
+-- a keyword, a name and `: USE`
+abbrev pub with_typed : Output → Bytes → Bytes → TypeUse → Output
+with_typed l w n t = pushed (spelled l (keyword_tokens w n)) (result_tokens t)
 
 -- an expression of this level needs no parentheses as the base of a field or to the right of `+`
 abbrev pub is_tight : Level → Bool

@@ -1,8 +1,10 @@
 //! Canonical text: a document as it is printed.
 #![tactic(auto)]
 
+mod clause;
 mod document;
 mod expression;
+mod item;
 mod line;
 mod shape;
 
