@@ -5,7 +5,9 @@ use Rattle.std.specs.Str.{bytes_eq}
 use Rattle.std.proofs.lemmas.List.{map-append}
 use Rattle.dg_lex.specs.Bytes.{Bytes, is_among}
 use Rattle.dg_lex.specs.Lexemes.{Lexeme}
-use Rattle.dg_decl.specs.Canonical.{Printed, apart, all_apart, close, type_tokens, has_space, gap, text_behind, text_of}
+use Rattle.dg_decl.specs.Canonical.{Printed, apart, all_apart, close, type_tokens, has_space, gap, text_behind, text_of, indent_of, item_tokens, canonical_line}
+use Rattle.dg_decl.specs.declared.item.Item.{Item}
+use Rattle.dg_decl.specs.Lines.{with_end}
 use Rattle.dg_decl.specs.Written.{separated, more_separated, sign_token}
 use Rattle.dg_printer.specs.declared.line.After.TheVariants as after
 use Rattle.dg_printer.specs.Output.{Output, after_of, is_spaced, wants_space, space_where, with_token, pushed, spelled, with_others, with_list, with_all, type_printed}
@@ -59,3 +61,10 @@ begun z (p ∷ ps) =
     appended p.token (with_token (record { text = z; after = after.Start }) p.close p.token.spelling) ps refl
     ∙ rw (closed_start p.close, append_assoc) refl
 
+
+-- the line of an item behind a text, with its indent and its end
+pub line_made : (z : Bytes) (x : Item)
+    → (pushed (record { text = z ++ indent_of x; after = after.Start }) (item_tokens x)).text ++ (10 ∷ [])
+    ≡ z ++ with_end (canonical_line x)
+unfolding canonical_line
+line_made z x = rw (begun (z ++ indent_of x) (item_tokens x), append_assoc, append_assoc, append_assoc) refl

@@ -156,6 +156,23 @@ fn push_loose(line: &mut Line, e: &Expr) -> Result<(), NoMemory>
     line.push(b")")
 }
 
+/// Appends arguments with commas between.
+#[cycle(printing)]
+fn push_argument_list(line: &mut Line, args: &[Expr]) -> Result<(), NoMemory>
+    ensures exact { OnOk result (line.new
+        ≡ spec.with_list spec.with_expression line.old args.now) }
+{
+    let [first, others @ ..] = args else {
+        return Ok(());
+    };
+    push_expression(line, first)?;
+    for other in others {
+        line.push(b",")?;
+        push_expression(line, other)?;
+    }
+    Ok(())
+}
+
 /// Appends arguments in parentheses.
 #[cycle(printing)]
 #[tactic(auto, using(crate::proofs::ExpressionLemmas::arguments_line))]
@@ -164,13 +181,7 @@ fn push_arguments(line: &mut Line, args: &[Expr]) -> Result<(), NoMemory>
         ≡ spec.spelled line.old (list_tokens (map written args.now))) }
 {
     line.push(b"(")?;
-    if let [first, others @ ..] = args {
-        push_expression(line, first)?;
-        for other in others {
-            line.push(b",")?;
-            push_expression(line, other)?;
-        }
-    }
+    push_argument_list(line, args)?;
     line.push(b")")
 }
 
