@@ -21,7 +21,8 @@ use Rattle.dg_printer.specs.declared.line.After.TheVariants as after
 abbrev pub after_of : Bytes → After
 after_of s =
     if bytes_eq s (codes ",") then after.Comma
-    else (if is_among s (codes "(" ∷ codes "[" ∷ codes "." ∷ []) then after.Opening else after.Other)
+    else (if is_among s (codes "(" ∷ codes "[" ∷ codes "." ∷ []) then after.Opening else
+    after.Other)
 
 -- a token of this spelling may have a space before it
 abbrev pub is_spaced : Bytes → Bool

@@ -1,4 +1,4 @@
-ghost use Rattle.std.specs.Prelude.{◌≡◌, ◌++◌, IfOk, OnOk};
+ghost use Rattle.std.specs.Prelude.{◌≡◌, ◌++◌, ◌<◌, IfOk, OnErr, OnOk, length};
 ghost use Rattle.dg_decl.specs.Canonical.{canonical_line, canonical_text, is_member, indent_of};
 ghost use Rattle.dg_decl.specs.Lines.{with_end};
 
@@ -47,6 +47,7 @@ fn push_line(line: &mut Line, item: &Item) -> Result<(), NoMemory>
 #[tactic(auto, unfolding(dg_decl::specs::Canonical::canonical_text))]
 pub fn print_doc(alloc: Global, d: &Doc) -> Result<Vec<u8>, NoMemory>
     ensures exact { IfOk result (λ text. text.items ≡ canonical_text d.now) }
+    ensures cause { OnErr result (0 < length d.now.items) }
 {
     let mut line = Line::new(alloc);
     for item in d.items.as_slice() {

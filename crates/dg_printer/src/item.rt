@@ -206,12 +206,7 @@ fn push_produces(
 }
 
 /// Appends a keyword, a name and `: USE`.
-fn push_typed(
-    line: &mut Line,
-    word: &[u8],
-    name: &Name,
-    asked: &TypeUse,
-) -> Result<(), NoMemory>
+fn push_typed(line: &mut Line, word: &[u8], name: &Name, asked: &TypeUse) -> Result<(), NoMemory>
     ensures exact { OnOk result (line.new
         ≡ spec.with_typed line.old word.now name.now asked.now) }
 {
@@ -238,12 +233,7 @@ fn push_open(
 }
 
 #[tactic(auto, using(crate::proofs::ItemLemmas::ask_line))]
-fn push_ask(
-    line: &mut Line,
-    inst: &Name,
-    entry: &Name,
-    steps: &[AskStep],
-) -> Result<(), NoMemory>
+fn push_ask(line: &mut Line, inst: &Name, entry: &Name, steps: &[AskStep]) -> Result<(), NoMemory>
     ensures exact { OnOk result (line.new ≡ spec.pushed line.old
         (item_tokens (form.AskLine inst.now entry.now steps.now))) }
 {

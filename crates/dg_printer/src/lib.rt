@@ -9,3 +9,6 @@ mod line;
 mod shape;
 
 pub use document::print_doc;
+
+#[cfg(test)]
+mod tests;

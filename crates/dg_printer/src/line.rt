@@ -1,6 +1,6 @@
 //! A text to which tokens are appended, each with the space before it.
 
-ghost use Rattle.std.specs.Prelude.{◌≡◌, ◌++◌, ◌∷◌, [], true, false, Bool, OnOk, codes};
+ghost use Rattle.std.specs.Prelude.{◌≡◌, ◌++◌, ◌∷◌, [], false, OnOk};
 ghost use Rattle.dg_decl.specs.Canonical.{keyword_tokens};
 ghost use Rattle.dg_decl.specs.Written.{integer_token, text_token};
 ghost use Rattle.dg_printer.specs.Output as spec;
@@ -89,7 +89,10 @@ impl Line {
 
     /// Begins a line with these bytes.
     pub fn begin(&mut self, indent: &[u8]) -> Result<(), NoMemory>
-        ensures exact { OnOk result (self.new ≡ record { text = self.old.text ++ indent.now; after = after.Start }) }
+        ensures exact { OnOk result (self.new ≡ record {
+          text = self.old.text ++ indent.now;
+          after = after.Start;
+        }) }
     {
         self.text.extend_from_slice(indent)?;
         self.after = After::Start;
@@ -129,8 +132,8 @@ impl Line {
     #[tactic(auto, unfolding(crate::specs::Output::with_token))]
     fn push_space(&mut self) -> Result<(), NoMemory>
         ensures exact { OnOk result (self.new ≡ record {
-            text = self.old.text ++ spec.space_where (spec.wants_space self.old.after []);
-            after = self.old.after;
+          text = self.old.text ++ spec.space_where (spec.wants_space self.old.after []);
+          after = self.old.after;
         }) }
     {
         if wants_space(self.after, b"") {
@@ -154,7 +157,8 @@ impl Line {
     /// Appends a text in quotes.
     #[tactic(auto, unfolding(crate::specs::Output::with_token, dg_types::specs::Texts::quoted, dg_lex::specs::Lexemes::quoted))]
     pub fn push_text(&mut self, text: &Text) -> Result<(), NoMemory>
-        ensures exact { OnOk result (self.new ≡ spec.with_token self.old false (text_token text.now).spelling) }
+        ensures exact { OnOk result (self.new
+            ≡ spec.with_token self.old false (text_token text.now).spelling) }
     {
         self.push_space()?;
         push_quoted(&mut self.text, text.as_slice())?;
@@ -164,7 +168,8 @@ impl Line {
 
     /// Appends an integer in decimal.
     pub fn push_integer(&mut self, n: i64) -> Result<(), NoMemory>
-        ensures exact { OnOk result (self.new ≡ spec.with_token self.old false (integer_token n).spelling) }
+        ensures exact { OnOk result (self.new
+            ≡ spec.with_token self.old false (integer_token n).spelling) }
     {
         let mut buffer = Buffer::new();
         self.push(buffer.format(n).as_bytes())
@@ -181,7 +186,8 @@ impl Line {
 
     /// Appends a keyword and a name.
     pub fn push_keyword(&mut self, word: &[u8], name: &Name) -> Result<(), NoMemory>
-        ensures exact { OnOk result (self.new ≡ spec.spelled self.old (keyword_tokens word.now name.now)) }
+        ensures exact { OnOk result (self.new
+            ≡ spec.spelled self.old (keyword_tokens word.now name.now)) }
     {
         self.push(word)?;
         self.push(name.as_slice())

@@ -6,4 +6,5 @@ use Rattle.dg_printer.proofs.document.print_doc.Given as goal
 
 -- the lines of the items so far
 abbrev pub invariant-loop-item : goal.invariant-loop-item
-invariant-loop-item l = l.line.text ≡ flat_map with_end (map canonical_line (take l.item-index l.item-items))
+invariant-loop-item l = l.line.text ≡ flat_map with_end
+    (map canonical_line (take l.item-index l.item-items))
