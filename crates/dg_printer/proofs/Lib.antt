@@ -1,0 +1,5 @@
+pub mod Appending
+pub mod TypeLemmas
+pub mod ExpressionLemmas
+pub mod ItemLemmas
+pub mod ExamplesPrinting
