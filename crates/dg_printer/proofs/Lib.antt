@@ -1,0 +1,2 @@
+pub mod BackKinds
+pub mod BackWritten
