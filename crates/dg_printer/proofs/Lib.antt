@@ -1,2 +1,3 @@
 pub mod BackKinds
 pub mod BackWritten
+pub mod BackForms
