@@ -60,7 +60,7 @@ or_true false = refl
 closed_touch : (before : Lexeme) (z : Bytes) → closes before.kind before.spelling ≡ true → may_touch before z ≡ true
 closed_touch before z c = rw c refl
 
-apart_touch : (before : Lexeme) (z : Bytes) → starts_apart z ≡ true → may_touch before z ≡ true
+pub apart_touch : (before : Lexeme) (z : Bytes) → starts_apart z ≡ true → may_touch before z ≡ true
 apart_touch before z a = rw (a, or_true (closes before.kind before.spelling)) refl
 
 constructor_sticks : (n : Bytes) (parts : List Lexeme) → DoStick parts → DoStick (constructor_of n parts)

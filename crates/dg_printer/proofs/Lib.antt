@@ -1,3 +1,4 @@
 pub mod BackKinds
 pub mod BackWritten
 pub mod BackForms
+pub mod BackTokens
