@@ -2,3 +2,4 @@ pub mod BackKinds
 pub mod BackWritten
 pub mod BackForms
 pub mod BackTokens
+pub mod BackItems
