@@ -3,3 +3,4 @@ pub mod BackWritten
 pub mod BackForms
 pub mod BackTokens
 pub mod BackItems
+pub mod BackKeeps
