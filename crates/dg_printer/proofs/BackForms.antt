@@ -380,7 +380,7 @@ all_of : {A : Type 0} (P Q : A → Type 0) → ((a : A) → P a → Q a) → (xs
 all_of P Q is [] all = tt
 all_of P Q is (x ∷ xs) all = (is x all.0, all_of P Q is xs all.1)
 
-fits_at : (P : Expr → Type 0) → ((x : Expr) → P x → (written x).fits ≡ true) → (e : Expr) → IsConstantOver P e → (written e).fits ≡ true
+pub fits_at : (P : Expr → Type 0) → ((x : Expr) → P x → (written x).fits ≡ true) → (e : Expr) → IsConstantOver P e → (written e).fits ≡ true
 fits_at P is e (of_text t same plain) = rw (same, eq.written-Text t) plain
 fits_at P is e (of_integer n same within) = rw (same, eq.written-Int n) within
 fits_at P is e (of_object c xs same named short all) =

@@ -40,7 +40,7 @@ Any a = Unit {0}
 
 -- ---- from readers to readers
 
-bind_at : {A B : Type 0} (P : A → Type 0) (Q : B → Type 0) (x : Option (A × List Lexeme)) (f : A → Reader B) → IfReads P x → ((a : A) → P a → Keeps Q (f a)) → IfReads Q (then_reads x f)
+pub bind_at : {A B : Type 0} (P : A → Type 0) (Q : B → Type 0) (x : Option (A × List Lexeme)) (f : A → Reader B) → IfReads P x → ((a : A) → P a → Keeps Q (f a)) → IfReads Q (then_reads x f)
 bind_at P Q None f is more = tt
 bind_at P Q (Some p) f is more = (more p.0 is.0).at p.1 is.1
 
@@ -61,7 +61,7 @@ pub choose_by : {A : Type 0} {P : A → Type 0} (b : Bool) (r s : Reader A) → 
 choose_by true r s kr ks = kr refl
 choose_by false r s kr ks = ks refl
 
-if_at : {A : Type 0} (P : A → Type 0) (b : Bool) (x y : Option (A × List Lexeme)) → IfReads P x → IfReads P y → IfReads P (if b then x else y)
+pub if_at : {A : Type 0} (P : A → Type 0) (b : Bool) (x y : Option (A × List Lexeme)) → IfReads P x → IfReads P y → IfReads P (if b then x else y)
 if_at P true x y px py = px
 if_at P false x y px py = py
 
@@ -204,7 +204,7 @@ prefix_one l ls e = rw e (omega arith)
 prefix_none : (l : Lexeme) (ls : List Lexeme) → is_of_kind kind.AtName l ≡ false → prefix_len (is_of_kind kind.AtName) (l ∷ ls) ≡ 0
 prefix_none l ls e = rw e refl
 
-at_kind_of : (l : Lexeme) → is_of_kind kind.AtName l ≡ true → kind_of l.spelling ≡ Some l.kind → IsName (drop 1 l.spelling)
+pub at_kind_of : (l : Lexeme) → is_of_kind kind.AtName l ≡ true → kind_of l.spelling ≡ Some l.kind → IsName (drop 1 l.spelling)
 at_kind_of l e is = at_of l.spelling (is ∙ ap (λ (j : TokenKind). Some j) (same_true the_type tt l.kind kind.AtName e))
 
 abbrev AtNames : ℕ → List Lexeme → Type 0

@@ -4,3 +4,5 @@ pub mod BackForms
 pub mod BackTokens
 pub mod BackItems
 pub mod BackKeeps
+pub mod BackReads
+pub mod BackFits
