@@ -6,3 +6,5 @@ pub mod BackItems
 pub mod BackKeeps
 pub mod BackReads
 pub mod BackFits
+pub mod BackLines
+pub mod BackDocument

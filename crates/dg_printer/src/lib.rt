@@ -2,5 +2,7 @@
 #![tactic(auto)]
 
 mod document;
+mod laws;
 
 pub use document::print_doc;
+pub use laws::reads_back;
