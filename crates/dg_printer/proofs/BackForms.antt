@@ -44,28 +44,40 @@ abbrev close_paren : Lexeme
 close_paren = sign_token (codes ")")
 
 -- what one reader reads, and then what is read behind it
-pub next : {A B : Type 0} {x : Option (A × List Lexeme)} {a : A} {rest : List Lexeme} {o : Option (B × List Lexeme)} (f : A → Reader B) → x ≡ Some (a, rest) → f a rest ≡ o → then_reads x f ≡ o
+pub next : {A B : Type 0} {x : Option (A × List Lexeme)} {a : A} {rest : List Lexeme} {o : Option
+    (B × List Lexeme)} (f : A → Reader B) → x ≡ Some (a, rest) → f a rest ≡ o → then_reads x f ≡ o
 next f is more = ap (λ z. then_reads z f) is ∙ more
 
 -- ---- lists
 
 -- each is read back from its tokens, where what stands behind them is so
-abbrev pub AreBack : {A : Type 0} → Reader A → (List Lexeme → Type 0) → List A → List (List Lexeme) → Type 0
+abbrev pub AreBack : {A : Type 0} → Reader A → (List Lexeme → Type 0) → List A → List (List Lexeme)
+    → Type 0
 AreBack r Follows [] [] = Unit {0}
 AreBack r Follows [] (ts ∷ tss) = ⊥
 AreBack r Follows (x ∷ xs) [] = ⊥
-AreBack r Follows (x ∷ xs) (ts ∷ tss) = ((rest : List Lexeme) → Follows rest → r (ts ++ rest) ≡ Some (x, rest)) × AreBack r Follows xs tss
+AreBack r Follows (x ∷ xs) (ts ∷ tss) = ((rest : List Lexeme) → Follows rest → r (ts ++ rest) ≡ Some
+    (x, rest)) × AreBack r Follows xs tss
 
-last_of : {A : Type 0} (r : Reader A) (k : ℕ) (x : A) (ts rest : List Lexeme) → r (ts ++ rest) ≡ Some (x, rest) → NoSign (codes ",") rest → list_of r (suc k) (ts ++ rest) ≡ Some (x ∷ [], rest)
+last_of : {A : Type 0} (r : Reader A) (k : ℕ) (x : A) (ts rest : List Lexeme) → r (ts ++ rest)
+    ≡ Some (x, rest) → NoSign (codes ",") rest → list_of r (suc k) (ts ++ rest) ≡ Some
+    (x ∷ [], rest)
 unfolding list_of eaten
 last_of r k x ts rest is none = next _ is (rw none refl)
 
-more_of : {A : Type 0} (r : Reader A) (k : ℕ) (x : A) (xs : List A) (ts later rest : List Lexeme) → r (ts ++ (comma ∷ later)) ≡ Some (x, comma ∷ later) → list_of r k later ≡ Some (xs, rest) → list_of r (suc k) (ts ++ (comma ∷ later)) ≡ Some (x ∷ xs, rest)
+more_of : {A : Type 0} (r : Reader A) (k : ℕ) (x : A) (xs : List A) (ts later rest : List Lexeme)
+    → r (ts ++ (comma ∷ later)) ≡ Some (x, comma ∷ later) → list_of r k later ≡ Some (xs, rest)
+    → list_of r (suc k) (ts ++ (comma ∷ later)) ≡ Some (x ∷ xs, rest)
 unfolding list_of eaten comes
 more_of r k x xs ts later rest is more = next _ is (rw more refl)
 
-pub list_back : {A : Type 0} (r : Reader A) (Follows : List Lexeme → Type 0) → ((rest : List Lexeme) → Follows (comma ∷ rest)) → (x : A) (xs : List A) (ts : List Lexeme) (tss : List (List Lexeme)) (k : ℕ) (rest : List Lexeme) → AreBack r Follows (x ∷ xs) (ts ∷ tss) → length (x ∷ xs) ≤ k → Follows rest → NoSign (codes ",") rest → list_of r k (separated comma (ts ∷ tss) ++ rest) ≡ Some (x ∷ xs, rest)
-list_back r Follows commas x xs ts tss zero rest all short follows none = absurd (omega (arith, short))
+pub list_back : {A : Type 0} (r : Reader A) (Follows : List Lexeme → Type 0)
+    → ((rest : List Lexeme) → Follows (comma ∷ rest)) → (x : A) (xs : List A) (ts : List Lexeme)
+    (tss : List (List Lexeme)) (k : ℕ) (rest : List Lexeme) → AreBack r Follows (x ∷ xs) (ts ∷ tss)
+    → length (x ∷ xs) ≤ k → Follows rest → NoSign (codes ",") rest → list_of r k
+    (separated comma (ts ∷ tss) ++ rest) ≡ Some (x ∷ xs, rest)
+list_back r Follows commas x xs ts tss zero rest all short follows none = absurd
+    (omega (arith, short))
 list_back r Follows commas x [] ts [] (suc k) rest all short follows none =
     rw (append_assoc ts [] rest) (last_of r k x ts rest (all.0 rest follows) none)
 list_back r Follows commas x [] ts (us ∷ tss) (suc k) rest all short follows none = absurd all.1
@@ -91,15 +103,21 @@ names_are : (ns : List Bytes) → AreBack name Anything ns (names_tokens ns)
 names_are [] = tt
 names_are (n ∷ ns) = (λ rest any. name_back n rest, names_are ns)
 
-pub names_back : (n : Bytes) (ns : List Bytes) (rest : List Lexeme) → length (n ∷ ns) ≤ line_limit → NoSign (codes ",") rest → names (separated comma (names_tokens (n ∷ ns)) ++ rest) ≡ Some (n ∷ ns, rest)
+pub names_back : (n : Bytes) (ns : List Bytes) (rest : List Lexeme) → length (n ∷ ns) ≤ line_limit
+    → NoSign (codes ",") rest → names (separated comma (names_tokens (n ∷ ns)) ++ rest) ≡ Some
+    (n ∷ ns, rest)
 unfolding names
-names_back n ns rest short none = list_back name Anything (λ r. tt) n ns (name_token n ∷ []) (names_tokens ns) line_limit rest (names_are (n ∷ ns)) short tt none
+names_back n ns rest short none = list_back name Anything (λ r. tt) n ns (name_token n ∷ [])
+    (names_tokens ns) line_limit rest (names_are (n ∷ ns)) short tt none
 
 -- ---- uses of types
 
 -- a type begins with a name
-type_first : (s : Shape) (P : List Lexeme → Type 0) → ((n : Bytes) (more : List Lexeme) → P (name_token n ∷ more)) → (rest : List Lexeme) → P ((written_type s).tokens ++ rest)
-type_first s P is rest = (let f = type_facts s in subst (λ (ts : List Lexeme). P (ts ++ rest)) (sym f.first) (is f.name (f.more ++ rest)))
+type_first : (s : Shape) (P : List Lexeme → Type 0)
+    → ((n : Bytes) (more : List Lexeme) → P (name_token n ∷ more)) → (rest : List Lexeme) → P
+    ((written_type s).tokens ++ rest)
+type_first s P is rest = (let f = type_facts s in subst (λ (ts : List Lexeme). P (ts ++ rest))
+    (sym f.first) (is f.name (f.more ++ rest)))
 
 abbrev pub use_lexemes : TypeUse → List Lexeme
 use_lexemes u = qualifier_tokens u.qualifier ++ (written_type u.shape).tokens
@@ -118,11 +136,13 @@ pub record FitUse (u : TypeUse) : Type 0 where
   pub fits : (written_type u.shape).fits ≡ true
   pub depth : (written_type u.shape).depth ≤ type_depth_limit
 
-no_qualifier : (ls : List Lexeme) → comes_kind kind.AtName ls ≡ false → qualifier ls ≡ Some (None, ls)
+no_qualifier : (ls : List Lexeme) → comes_kind kind.AtName ls ≡ false → qualifier ls ≡ Some
+    (None, ls)
 unfolding qualifier
 no_qualifier ls none = rw none refl
 
-bare_qualifier : (n : Bytes) (ls : List Lexeme) → NoSign (codes "(") ls → qualifier (at_token n ∷ ls) ≡ Some (Some (record { name = n; member = None }), ls)
+bare_qualifier : (n : Bytes) (ls : List Lexeme) → NoSign (codes "(") ls → qualifier
+    (at_token n ∷ ls) ≡ Some (Some (record { name = n; member = None }), ls)
 unfolding qualifier some_qualifier at_name member comes_kind spelled
 bare_qualifier n ls none = rw none refl
 
@@ -130,11 +150,14 @@ text_back : (t : Bytes) (rest : List Lexeme) → text (text_token t ∷ rest) �
 unfolding text spelled
 text_back t rest = ap (λ (z : Bytes). Some (z, rest)) (quoted_back.value t)
 
-enclosed_text : (t : Bytes) (ls : List Lexeme) → enclosed text (sign_token (codes "(") ∷ (text_token t ∷ (close_paren ∷ ls))) ≡ Some (t, ls)
+enclosed_text : (t : Bytes) (ls : List Lexeme) → enclosed text
+    (sign_token (codes "(") ∷ (text_token t ∷ (close_paren ∷ ls))) ≡ Some (t, ls)
 unfolding enclosed taken comes
 enclosed_text t ls = next _ (text_back t (close_paren ∷ ls)) refl
 
-member_qualifier : (n t : Bytes) (ls : List Lexeme) → qualifier (at_token n ∷ (sign_token (codes "(") ∷ (text_token t ∷ (close_paren ∷ ls)))) ≡ Some (Some (record { name = n; member = Some t }), ls)
+member_qualifier : (n t : Bytes) (ls : List Lexeme) → qualifier
+    (at_token n ∷ (sign_token (codes "(") ∷ (text_token t ∷ (close_paren ∷ ls)))) ≡ Some
+    (Some (record { name = n; member = Some t }), ls)
 unfolding qualifier some_qualifier at_name member comes_kind comes spelled
 member_qualifier n t ls = rw (enclosed_text t ls) refl
 
@@ -146,19 +169,27 @@ name_no_paren : (n : Bytes) (ls : List Lexeme) → NoSign (codes "(") (name_toke
 unfolding comes
 name_no_paren n ls = refl
 
-qualifier_back : (q : Option Qualifier) (s : Shape) (rest : List Lexeme) → qualifier (qualifier_tokens q ++ ((written_type s).tokens ++ rest)) ≡ Some (q, (written_type s).tokens ++ rest)
-qualifier_back None s rest = no_qualifier ((written_type s).tokens ++ rest) (type_first s (λ ls. comes_kind kind.AtName ls ≡ false) name_no_at rest)
+qualifier_back : (q : Option Qualifier) (s : Shape) (rest : List Lexeme) → qualifier
+    (qualifier_tokens q ++ ((written_type s).tokens ++ rest)) ≡ Some
+    (q, (written_type s).tokens ++ rest)
+qualifier_back None s rest = no_qualifier ((written_type s).tokens ++ rest)
+    (type_first s (λ ls. comes_kind kind.AtName ls ≡ false) name_no_at rest)
 qualifier_back (Some q) s rest = some_at q.name q.member
   where
-    some_at : (n : Bytes) (m : Option Bytes) → qualifier (at_token n ∷ (member_tokens m ++ ((written_type s).tokens ++ rest))) ≡ Some (Some (record { name = n; member = m }), (written_type s).tokens ++ rest)
-    some_at n None = bare_qualifier n ((written_type s).tokens ++ rest) (type_first s (λ ls. NoSign (codes "(") ls) name_no_paren rest)
+    some_at : (n : Bytes) (m : Option Bytes) → qualifier
+        (at_token n ∷ (member_tokens m ++ ((written_type s).tokens ++ rest))) ≡ Some
+        (Some (record { name = n; member = m }), (written_type s).tokens ++ rest)
+    some_at n None = bare_qualifier n ((written_type s).tokens ++ rest)
+        (type_first s (λ ls. NoSign (codes "(") ls) name_no_paren rest)
     some_at n (Some t) = member_qualifier n t ((written_type s).tokens ++ rest)
 
-pub use_back : (u : TypeUse) → FitUse u → (rest : List Lexeme) → NoParts rest → type_use (use_lexemes u ++ rest) ≡ Some (u, rest)
+pub use_back : (u : TypeUse) → FitUse u → (rest : List Lexeme) → NoParts rest → type_use
+    (use_lexemes u ++ rest) ≡ Some (u, rest)
 unfolding type_use type_form
 use_back u f rest none =
     rw (append_assoc (qualifier_tokens u.qualifier) (written_type u.shape).tokens rest)
-    (next _ (qualifier_back u.qualifier u.shape rest) (next _ (type_back u.shape f.fits type_depth_limit f.depth rest none) refl))
+    (next _ (qualifier_back u.qualifier u.shape rest)
+    (next _ (type_back u.shape f.fits type_depth_limit f.depth rest none) refl))
 
 -- ---- parameters
 
@@ -169,7 +200,8 @@ pub record FitParam (p : Param) : Type 0 where
   pub name : is_name p.name ≡ true
   pub shape : FitUse p.shape
 
-pub param_back : (p : Param) → FitParam p → (rest : List Lexeme) → NoParts rest → param (param_lexemes p ++ rest) ≡ Some (p, rest)
+pub param_back : (p : Param) → FitParam p → (rest : List Lexeme) → NoParts rest → param
+    (param_lexemes p ++ rest) ≡ Some (p, rest)
 unfolding param spelled taken comes
 param_back p f rest none = next _ (use_back p.shape f.shape rest none) refl
 
@@ -185,11 +217,13 @@ pub record FitParams (ps : List Param) : Type 0 where
   pub all : AllOf FitParam ps
 
 -- no members, or some, between parentheses
-pub none_in : {A : Type 0} (r : Reader A) (rest : List Lexeme) → in_parentheses r (in_parens [] ++ rest) ≡ Some ([], rest)
+pub none_in : {A : Type 0} (r : Reader A) (rest : List Lexeme) → in_parentheses r
+    (in_parens [] ++ rest) ≡ Some ([], rest)
 unfolding in_parentheses taken eaten comes
 none_in r rest = refl
 
-paren_first : (rest : List Lexeme) → comes kind.Sign (codes "(") (sign_token (codes "(") ∷ rest) ≡ true
+paren_first : (rest : List Lexeme) → comes kind.Sign (codes "(") (sign_token (codes "(") ∷ rest)
+    ≡ true
 unfolding comes
 paren_first rest = refl
 
@@ -197,9 +231,20 @@ close_first : (rest : List Lexeme) → comes kind.Sign (codes ")") (close_paren 
 unfolding comes
 close_first rest = refl
 
-pub some_in : {A : Type 0} (r : Reader A) (xs : List A) (tokens rest : List Lexeme) → NoSign (codes ")") (tokens ++ (close_paren ∷ rest)) → list_of r list_limit (tokens ++ (close_paren ∷ rest)) ≡ Some (xs, close_paren ∷ rest) → in_parentheses r (in_parens tokens ++ rest) ≡ Some (xs, rest)
+pub some_in : {A : Type 0} (r : Reader A) (xs : List A) (tokens rest : List Lexeme) → NoSign
+    (codes ")") (tokens ++ (close_paren ∷ rest)) → list_of r list_limit
+    (tokens ++ (close_paren ∷ rest)) ≡ Some (xs, close_paren ∷ rest) → in_parentheses r
+    (in_parens tokens ++ rest) ≡ Some (xs, rest)
 unfolding in_parentheses taken eaten
-some_in r xs tokens rest none is = rw (paren_first ((tokens ++ (close_paren ∷ [])) ++ rest), append_assoc tokens (close_paren ∷ []) rest, none, is, close_first rest) refl
+some_in r xs tokens rest none is = rw (
+  paren_first
+      ((tokens ++ (close_paren ∷ [])) ++ rest),
+  append_assoc tokens
+      (close_paren ∷ []) rest,
+  none,
+  is,
+  close_first rest,
+) refl
 
 comma_no_parts : (rest : List Lexeme) → NoParts (comma ∷ rest)
 unfolding comes
@@ -217,17 +262,22 @@ name_no_close : (n : Bytes) (ls : List Lexeme) → NoSign (codes ")") (name_toke
 unfolding comes
 name_no_close n ls = refl
 
-pub params_back : (ps : List Param) → FitParams ps → (rest : List Lexeme) → params (params_lexemes ps ++ rest) ≡ Some (ps, rest)
+pub params_back : (ps : List Param) → FitParams ps → (rest : List Lexeme) → params
+    (params_lexemes ps ++ rest) ≡ Some (ps, rest)
 unfolding params
 params_back [] f rest = none_in param rest
 params_back (p ∷ ps) f rest =
     some_in param (p ∷ ps) (separated comma (map param_lexemes (p ∷ ps))) rest
-    (name_no_close p.name (((sign_token (codes ":") ∷ use_lexemes p.shape) ++ more_separated comma (map param_lexemes ps)) ++ (close_paren ∷ rest)))
-    (list_back param NoParts comma_no_parts p ps (param_lexemes p) (map param_lexemes ps) list_limit (close_paren ∷ rest) (params_are (p ∷ ps) f.all) f.short (close_no_parts rest) (close_no_comma rest))
+    (name_no_close p.name (((sign_token (codes ":") ∷ use_lexemes p.shape) ++ more_separated comma
+    (map param_lexemes ps)) ++ (close_paren ∷ rest)))
+    (list_back param NoParts comma_no_parts p ps (param_lexemes p) (map param_lexemes ps) list_limit
+    (close_paren ∷ rest) (params_are (p ∷ ps) f.all) f.short (close_no_parts rest)
+    (close_no_comma rest))
 
 -- ---- what stands in front of a keyword
 
-pub scope_back : (s : Option Bytes) (ls : List Lexeme) → comes_kind kind.AtName ls ≡ false → scope (scope_tokens s ++ ls) ≡ Some (s, ls)
+pub scope_back : (s : Option Bytes) (ls : List Lexeme) → comes_kind kind.AtName ls ≡ false → scope
+    (scope_tokens s ++ ls) ≡ Some (s, ls)
 unfolding scope at_name spelled comes_kind
 scope_back None [] none = refl
 scope_back None (l ∷ ls) none = rw none refl
@@ -237,14 +287,16 @@ abbrev pub FitKey : MapKeyVal → Type 0
 FitKey (map_key.Text k) = list_all is_plain k ≡ true
 FitKey (map_key.Int i) = is_in_range i ≡ true
 
-key_back : (k : MapKeyVal) (ls : List Lexeme) → FitKey k → map_key_mark (at_token (map_key_name k) ∷ (in_parens (map_key_token k ∷ []) ++ ls)) ≡ Some (k, ls)
+key_back : (k : MapKeyVal) (ls : List Lexeme) → FitKey k → map_key_mark
+    (at_token (map_key_name k) ∷ (in_parens (map_key_token k ∷ []) ++ ls)) ≡ Some (k, ls)
 unfolding map_key_mark enclosed text integer spelled eaten taken comes
 key_back (map_key.Text k) ls fits = rw (quoted_back.value k) refl
 key_back (map_key.Int i) ls fits = rw (decimals.token i fits, decimals.value i fits) refl
 
 -- the at-names that are marks
 abbrev pub is_mark : List Lexeme → Bool
-is_mark ls = comes kind.AtName (codes "@IntoSet") ls || (comes kind.AtName (codes "@ElementsIntoSet") ls || comes kind.AtName (codes "@IntoMap") ls)
+is_mark ls = comes kind.AtName (codes "@IntoSet") ls ||
+    (comes kind.AtName (codes "@ElementsIntoSet") ls || comes kind.AtName (codes "@IntoMap") ls)
 
 abbrev pub FitMark : Option Mark → List Lexeme → Type 0
 FitMark None ls = is_mark ls ≡ false
@@ -255,14 +307,17 @@ no_mark : (ls : List Lexeme) → is_mark ls ≡ false → mark_form ls ≡ Some 
 unfolding mark_form
 no_mark ls none =
     let a = or_parts (comes kind.AtName (codes "@IntoSet") ls) _ none in
-    let b = or_parts (comes kind.AtName (codes "@ElementsIntoSet") ls) (comes kind.AtName (codes "@IntoMap") ls) a.1 in
+    let b = or_parts (comes kind.AtName (codes "@ElementsIntoSet") ls)
+    (comes kind.AtName (codes "@IntoMap") ls) a.1 in
     rw (a.0, b.0, b.1) refl
 
-map_mark : (k : MapKeyVal) (ls : List Lexeme) → FitKey k → mark_form (mark_tokens (Some (mark.IntoMap k)) ++ ls) ≡ Some (Some (mark.IntoMap k), ls)
+map_mark : (k : MapKeyVal) (ls : List Lexeme) → FitKey k → mark_form
+    (mark_tokens (Some (mark.IntoMap k)) ++ ls) ≡ Some (Some (mark.IntoMap k), ls)
 unfolding mark_form at_name spelled comes
 map_mark k ls fits = rw (key_back k ls fits) refl
 
-pub mark_back : (m : Option Mark) (ls : List Lexeme) → FitMark m ls → mark_form (mark_tokens m ++ ls) ≡ Some (m, ls)
+pub mark_back : (m : Option Mark) (ls : List Lexeme) → FitMark m ls → mark_form
+    (mark_tokens m ++ ls) ≡ Some (m, ls)
 unfolding mark_form at_name spelled comes
 mark_back None ls fits = no_mark ls fits
 mark_back (Some mark.IntoSet) ls fits = refl
@@ -271,7 +326,8 @@ mark_back (Some (mark.IntoMap k)) ls fits = map_mark k ls fits
 
 -- ---- names behind a keyword
 
-count_at : (ss : List Bytes) (n : Bytes) (rest : List Lexeme) → prefix_len (is_of_kind kind.AtName) (at_tokens ss ++ (name_token n ∷ rest)) ≡ length (at_tokens ss)
+count_at : (ss : List Bytes) (n : Bytes) (rest : List Lexeme) → prefix_len (is_of_kind kind.AtName)
+    (at_tokens ss ++ (name_token n ∷ rest)) ≡ length (at_tokens ss)
 count_at [] n rest = refl
 count_at (s ∷ ss) n rest = rw (count_at ss n rest) (omega arith)
 
@@ -279,26 +335,41 @@ bare_names : (ss : List Bytes) → map (λ (l : Lexeme). drop 1 l.spelling) (at_
 bare_names [] = refl
 bare_names (s ∷ ss) = ap (λ (zs : List Bytes). s ∷ zs) (bare_names ss)
 
-pub at_names_back : (ss : List Bytes) (n : Bytes) (rest : List Lexeme) → at_names (at_tokens ss ++ (name_token n ∷ rest)) ≡ Some (ss, name_token n ∷ rest)
+pub at_names_back : (ss : List Bytes) (n : Bytes) (rest : List Lexeme) → at_names
+    (at_tokens ss ++ (name_token n ∷ rest)) ≡ Some (ss, name_token n ∷ rest)
 unfolding at_names
 at_names_back ss n rest =
-    rw (count_at ss n rest, take-append_seam (at_tokens ss) (name_token n ∷ rest), drop-append_seam (at_tokens ss) (name_token n ∷ rest))
+    rw (
+      count_at ss n rest,
+      take-append_seam (at_tokens ss) (name_token n ∷ rest),
+      drop-append_seam
+          (at_tokens ss) (name_token n ∷ rest),
+    )
     (ap (λ (zs : List Bytes). Some (zs, name_token n ∷ rest)) (bare_names ss))
 
-no_clause : (k : TokenKind) (w : Bytes) (rest : List Lexeme) → comes k w rest ≡ false → optional_names k w rest ≡ Some ([], rest)
+no_clause : (k : TokenKind) (w : Bytes) (rest : List Lexeme) → comes k w rest ≡ false
+    → optional_names k w rest ≡ Some ([], rest)
 unfolding optional_names eaten
 no_clause k w rest none = rw none refl
 
-some_clause : (k : TokenKind) (w : Bytes) (t : Lexeme) (ns : List Bytes) (ls rest : List Lexeme) → comes k w (t ∷ ls) ≡ true → names ls ≡ Some (ns, rest) → optional_names k w (t ∷ ls) ≡ Some (ns, rest)
+some_clause : (k : TokenKind) (w : Bytes) (t : Lexeme) (ns : List Bytes) (ls rest : List Lexeme)
+    → comes k w (t ∷ ls) ≡ true → names ls ≡ Some (ns, rest) → optional_names k w (t ∷ ls) ≡ Some
+    (ns, rest)
 unfolding optional_names eaten
 some_clause k w t ns ls rest first is = rw first is
 
-pub clause_back : (k : TokenKind) (w : Bytes) (t : Lexeme) (ns : List Bytes) (rest : List Lexeme) → ((ls : List Lexeme) → comes k w (t ∷ ls) ≡ true) → comes k w rest ≡ false → NoSign (codes ",") rest → length ns ≤ line_limit → optional_names k w (clause_tokens t ns ++ rest) ≡ Some (ns, rest)
+pub clause_back : (k : TokenKind) (w : Bytes) (t : Lexeme) (ns : List Bytes) (rest : List Lexeme)
+    → ((ls : List Lexeme) → comes k w (t ∷ ls) ≡ true) → comes k w rest ≡ false → NoSign
+    (codes ",") rest → length ns ≤ line_limit → optional_names k w (clause_tokens t ns ++ rest)
+    ≡ Some (ns, rest)
 clause_back k w t [] rest first none last short = no_clause k w rest none
 clause_back k w t (n ∷ ns) rest first none last short =
-    some_clause k w t (n ∷ ns) (separated (sign_token (codes ",")) (names_tokens (n ∷ ns)) ++ rest) rest (first _) (names_back n ns rest short last)
+    some_clause k w t (n ∷ ns) (separated (sign_token (codes ",")) (names_tokens (n ∷ ns)) ++ rest)
+    rest (first _) (names_back n ns rest short last)
 
-pub optional_back : (p : Option Bytes) (rest : List Lexeme) → comes kind.Name (codes "in") rest ≡ false → optional kind.Name (codes "in") name (optional_tokens (codes "in") p ++ rest) ≡ Some (p, rest)
+pub optional_back : (p : Option Bytes) (rest : List Lexeme) → comes kind.Name (codes "in") rest
+    ≡ false → optional kind.Name (codes "in") name (optional_tokens (codes "in") p ++ rest) ≡ Some
+    (p, rest)
 unfolding optional eaten comes spelled
 optional_back None rest none = rw none refl
 optional_back (Some n) rest none = refl
@@ -308,7 +379,8 @@ optional_back (Some n) rest none = refl
 pub data IsConstantOver (P : Expr → Type 0) (e : Expr) : Type 0 where
   of_text : (t : Bytes) → e ≡ expr.Text t → list_all is_plain t ≡ true → IsConstantOver P e
   of_integer : (n : ℤ) → e ≡ expr.Int n → is_in_range n ≡ true → IsConstantOver P e
-  of_object : (c : Bytes) (xs : List Expr) → e ≡ expr.New c xs → is_name c ≡ true → length xs ≤ list_limit → AllOf P xs → IsConstantOver P e
+  of_object : (c : Bytes) (xs : List Expr) → e ≡ expr.New c xs → is_name c ≡ true
+      → length xs ≤ list_limit → AllOf P xs → IsConstantOver P e
 
 -- a constant that nests at most so deep
 unfoldable pub ConstantAt : ℕ → Expr → Type 0
@@ -316,75 +388,101 @@ ConstantAt zero e = ⊥
 ConstantAt (suc d) e = IsConstantOver (ConstantAt d) e
 
 abbrev IsConstantBack : ℕ → Expr → Type 0
-IsConstantBack d e = (rest : List Lexeme) → constant_within d ((written e).tokens ++ rest) ≡ Some (e, rest)
+IsConstantBack d e = (rest : List Lexeme) → constant_within d ((written e).tokens ++ rest) ≡ Some
+    (e, rest)
 
-text_over : (inner : Reader Expr) (t : Bytes) (rest : List Lexeme) → constant_over inner ((written (expr.Text t)).tokens ++ rest) ≡ Some (expr.Text t, rest)
+text_over : (inner : Reader Expr) (t : Bytes) (rest : List Lexeme) → constant_over inner
+    ((written (expr.Text t)).tokens ++ rest) ≡ Some (expr.Text t, rest)
 unfolding constant_over comes_kind text_constant
 text_over inner t rest = rw (eq.written-Text t) (next _ (text_back t rest) refl)
 
-integer_over : (inner : Reader Expr) (n : ℤ) (rest : List Lexeme) → is_in_range n ≡ true → constant_over inner ((written (expr.Int n)).tokens ++ rest) ≡ Some (expr.Int n, rest)
+integer_over : (inner : Reader Expr) (n : ℤ) (rest : List Lexeme) → is_in_range n ≡ true
+    → constant_over inner ((written (expr.Int n)).tokens ++ rest) ≡ Some (expr.Int n, rest)
 unfolding constant_over comes_kind integer_constant integer spelled
-integer_over inner n rest within = rw (eq.written-Int n, decimals.token n within) (ap (λ (z : ℤ). Some (expr.Int z, rest)) (decimals.value n within))
+integer_over inner n rest within = rw (eq.written-Int n, decimals.token n within)
+    (ap (λ (z : ℤ). Some (expr.Int z, rest)) (decimals.value n within))
 
-object_over : (inner : Reader Expr) (c : Bytes) (xs : List Expr) (ls rest : List Lexeme) → in_parentheses inner (ls ++ rest) ≡ Some (xs, rest) → constant_over inner (word_token (codes "new") ∷ (name_token c ∷ (ls ++ rest))) ≡ Some (expr.New c xs, rest)
+object_over : (inner : Reader Expr) (c : Bytes) (xs : List Expr) (ls rest : List Lexeme)
+    → in_parentheses inner (ls ++ rest) ≡ Some (xs, rest) → constant_over inner
+    (word_token (codes "new") ∷ (name_token c ∷ (ls ++ rest))) ≡ Some (expr.New c xs, rest)
 unfolding constant_over comes_kind object taken comes spelled
 object_over inner c xs ls rest is = next _ is refl
 
 abbrev members_tokens : List Expr → List (List Lexeme)
 members_tokens xs = map (λ x. x.tokens) (map written xs)
 
-constants_are : (d : ℕ) → ((x : Expr) → ConstantAt d x → IsConstantBack d x) → (xs : List Expr) → AllOf (ConstantAt d) xs → AreBack (constant_within d) Anything xs (members_tokens xs)
+constants_are : (d : ℕ) → ((x : Expr) → ConstantAt d x → IsConstantBack d x) → (xs : List Expr)
+    → AllOf (ConstantAt d) xs → AreBack (constant_within d) Anything xs (members_tokens xs)
 constants_are d back [] all = tt
 constants_are d back (x ∷ xs) all = (λ rest any. back x all.0 rest, constants_are d back xs all.1)
 
-no_close_at : (P : Expr → Type 0) (e : Expr) → IsConstantOver P e → (rest : List Lexeme) → NoSign (codes ")") ((written e).tokens ++ rest)
+no_close_at : (P : Expr → Type 0) (e : Expr) → IsConstantOver P e → (rest : List Lexeme) → NoSign
+    (codes ")") ((written e).tokens ++ rest)
 unfolding comes
 no_close_at P e (of_text t same plain) rest = rw (same, eq.written-Text t) refl
 no_close_at P e (of_integer n same within) rest = rw (same, eq.written-Int n) refl
 no_close_at P e (of_object c xs same named short all) rest = rw (same, eq.written-New c xs) refl
 
-no_close : (d : ℕ) (e : Expr) → ConstantAt d e → (rest : List Lexeme) → NoSign (codes ")") ((written e).tokens ++ rest)
+no_close : (d : ℕ) (e : Expr) → ConstantAt d e → (rest : List Lexeme) → NoSign (codes ")")
+    ((written e).tokens ++ rest)
 unfolding ConstantAt
 no_close zero e is rest = absurd is
 no_close (suc d) e is rest = no_close_at (ConstantAt d) e is rest
 
-constants_in : (d : ℕ) → ((x : Expr) → ConstantAt d x → IsConstantBack d x) → (xs : List Expr) → AllOf (ConstantAt d) xs → length xs ≤ list_limit → (rest : List Lexeme) → in_parentheses (constant_within d) (list_tokens (map written xs) ++ rest) ≡ Some (xs, rest)
+constants_in : (d : ℕ) → ((x : Expr) → ConstantAt d x → IsConstantBack d x) → (xs : List Expr)
+    → AllOf (ConstantAt d) xs → length xs ≤ list_limit → (rest : List Lexeme) → in_parentheses
+    (constant_within d) (list_tokens (map written xs) ++ rest) ≡ Some (xs, rest)
 constants_in d back [] all short rest = none_in (constant_within d) rest
 constants_in d back (x ∷ xs) all short rest =
     some_in (constant_within d) (x ∷ xs) (separated comma (members_tokens (x ∷ xs))) rest
-    (rw (append_assoc (written x).tokens (more_separated comma (members_tokens xs)) (close_paren ∷ rest)) (no_close d x all.0 (more_separated comma (members_tokens xs) ++ (close_paren ∷ rest))))
-    (list_back (constant_within d) Anything (λ r. tt) x xs (written x).tokens (members_tokens xs) list_limit (close_paren ∷ rest) (constants_are d back (x ∷ xs) all) short tt (close_no_comma rest))
+    (rw (append_assoc (written x).tokens (more_separated comma (members_tokens xs))
+    (close_paren ∷ rest)) (no_close d x all.0 (more_separated comma (members_tokens xs)
+    ++ (close_paren ∷ rest))))
+    (list_back (constant_within d) Anything (λ r. tt) x xs (written x).tokens
+    (members_tokens xs) list_limit (close_paren ∷ rest)
+    (constants_are d back (x ∷ xs) all) short tt (close_no_comma rest))
 
-constant_at : (d : ℕ) → ((x : Expr) → ConstantAt d x → IsConstantBack d x) → (e : Expr) → IsConstantOver (ConstantAt d) e → (rest : List Lexeme) → constant_over (constant_within d) ((written e).tokens ++ rest) ≡ Some (e, rest)
+constant_at : (d : ℕ) → ((x : Expr) → ConstantAt d x → IsConstantBack d x) → (e : Expr)
+    → IsConstantOver (ConstantAt d) e → (rest : List Lexeme) → constant_over (constant_within d)
+    ((written e).tokens ++ rest) ≡ Some (e, rest)
 constant_at d back e (of_text t same plain) rest = rw same (text_over (constant_within d) t rest)
-constant_at d back e (of_integer n same within) rest = rw same (integer_over (constant_within d) n rest within)
+constant_at d back e (of_integer n same within) rest = rw same
+    (integer_over (constant_within d) n rest within)
 constant_at d back e (of_object c xs same named short all) rest =
-    rw (same, eq.written-New c xs) (object_over (constant_within d) c xs (list_tokens (map written xs)) rest (constants_in d back xs all short rest))
+    rw (same, eq.written-New c xs) (object_over (constant_within d) c xs
+    (list_tokens (map written xs)) rest (constants_in d back xs all short rest))
 
-pub constant_back : (d : ℕ) (e : Expr) → ConstantAt d e → (rest : List Lexeme) → constant_within d ((written e).tokens ++ rest) ≡ Some (e, rest)
+pub constant_back : (d : ℕ) (e : Expr) → ConstantAt d e → (rest : List Lexeme) → constant_within d
+    ((written e).tokens ++ rest) ≡ Some (e, rest)
 unfolding ConstantAt constant_within
 constant_back zero e is rest = absurd is
 constant_back (suc d) e is rest = constant_at d (λ x isx r. constant_back d x isx r) e is rest
 
 -- a constant fits
-pub all_fit : (es : List Expr) → AllOf (λ e. (written e).fits ≡ true) es → list_all (λ x. x.fits) (map written es) ≡ true
+pub all_fit : (es : List Expr) → AllOf (λ e. (written e).fits ≡ true) es → list_all (λ x. x.fits)
+    (map written es) ≡ true
 all_fit [] all = refl
 all_fit (e ∷ es) all = rw (all.0, all_fit es all.1) refl
 
-pub list_fit : (es : List Expr) → AllOf (λ e. (written e).fits ≡ true) es → length es ≤ list_limit → list_fits (map written es) ≡ true
+pub list_fit : (es : List Expr) → AllOf (λ e. (written e).fits ≡ true) es → length es ≤ list_limit
+    → list_fits (map written es) ≡ true
 list_fit es all short =
-    let few : nat_le (length (map written es)) list_limit ≡ true = le-leb (length (map written es)) list_limit (omega (arith, short, length-map es written)) in
+    let few : nat_le (length (map written es)) list_limit ≡ true = le-leb
+    (length (map written es)) list_limit (omega (arith, short, length-map es written)) in
     rw (few, all_fit es all) refl
 
-all_of : {A : Type 0} (P Q : A → Type 0) → ((a : A) → P a → Q a) → (xs : List A) → AllOf P xs → AllOf Q xs
+all_of : {A : Type 0} (P Q : A → Type 0) → ((a : A) → P a → Q a) → (xs : List A) → AllOf P xs
+    → AllOf Q xs
 all_of P Q is [] all = tt
 all_of P Q is (x ∷ xs) all = (is x all.0, all_of P Q is xs all.1)
 
-pub fits_at : (P : Expr → Type 0) → ((x : Expr) → P x → (written x).fits ≡ true) → (e : Expr) → IsConstantOver P e → (written e).fits ≡ true
+pub fits_at : (P : Expr → Type 0) → ((x : Expr) → P x → (written x).fits ≡ true) → (e : Expr)
+    → IsConstantOver P e → (written e).fits ≡ true
 fits_at P is e (of_text t same plain) = rw (same, eq.written-Text t) plain
 fits_at P is e (of_integer n same within) = rw (same, eq.written-Int n) within
 fits_at P is e (of_object c xs same named short all) =
-    rw (same, eq.written-New c xs, named) (list_fit xs (all_of P (λ x. (written x).fits ≡ true) is xs all) short)
+    rw (same, eq.written-New c xs, named) (list_fit xs
+    (all_of P (λ x. (written x).fits ≡ true) is xs all) short)
 
 pub constant_fits : (d : ℕ) (e : Expr) → ConstantAt d e → (written e).fits ≡ true
 unfolding ConstantAt
@@ -397,11 +495,13 @@ pub record FitArg (a : OpenArg) : Type 0 where
   pub name : is_name a.name ≡ true
   pub value : ConstantAt nesting_limit a.value
 
-arg_back : (a : OpenArg) → FitArg a → (rest : List Lexeme) → open_arg (open_arg_tokens a ++ rest) ≡ Some (a, rest)
+arg_back : (a : OpenArg) → FitArg a → (rest : List Lexeme) → open_arg (open_arg_tokens a ++ rest)
+    ≡ Some (a, rest)
 unfolding open_arg constant spelled taken comes
 arg_back a f rest = next _ (constant_back nesting_limit a.value f.value rest) refl
 
-args_are : (xs : List OpenArg) → AllOf FitArg xs → AreBack open_arg Anything xs (map open_arg_tokens xs)
+args_are : (xs : List OpenArg) → AllOf FitArg xs → AreBack open_arg Anything xs
+    (map open_arg_tokens xs)
 args_are [] all = tt
 args_are (a ∷ xs) all = (λ rest any. arg_back a all.0 rest, args_are xs all.1)
 
@@ -409,11 +509,14 @@ no_more : NoSign (codes ",") []
 unfolding comes
 no_more = refl
 
-pub args_back : (xs : List OpenArg) → AllOf FitArg xs → length xs ≤ list_limit → open_args (open_args_tokens xs) ≡ Some (xs, [])
+pub args_back : (xs : List OpenArg) → AllOf FitArg xs → length xs ≤ list_limit → open_args
+    (open_args_tokens xs) ≡ Some (xs, [])
 unfolding open_args eaten comes
 args_back [] all short = refl
 args_back (a ∷ xs) all short =
-    rw (append-nil (separated comma (map open_arg_tokens (a ∷ xs)))) at (list_back open_arg Anything (λ r. tt) a xs (open_arg_tokens a) (map open_arg_tokens xs) list_limit [] (args_are (a ∷ xs) all) short tt no_more)
+    rw (append-nil (separated comma (map open_arg_tokens (a ∷ xs)))) at
+    (list_back open_arg Anything (λ r. tt) a xs (open_arg_tokens a)
+    (map open_arg_tokens xs) list_limit [] (args_are (a ∷ xs) all) short tt no_more)
 
 -- ---- steps of an `ask` line
 
@@ -422,19 +525,23 @@ FitStep (step.Field f) = is_name f ≡ true
 FitStep (step.At k) = FitKey k
 FitStep other = Unit {0}
 
-key_form_back : (k : MapKeyVal) (rest : List Lexeme) → FitKey k → map_key_form (map_key_token k ∷ rest) ≡ Some (k, rest)
+key_form_back : (k : MapKeyVal) (rest : List Lexeme) → FitKey k → map_key_form
+    (map_key_token k ∷ rest) ≡ Some (k, rest)
 unfolding map_key_form comes_kind text integer spelled
 key_form_back (map_key.Text k) rest fits = rw (quoted_back.value k) refl
 key_form_back (map_key.Int i) rest fits = rw (decimals.token i fits, decimals.value i fits) refl
 
-step_back : (s : AskStep) (rest : List Lexeme) → FitStep s → ask_step (step_tokens s ++ rest) ≡ Some (s, rest)
+step_back : (s : AskStep) (rest : List Lexeme) → FitStep s → ask_step (step_tokens s ++ rest) ≡ Some
+    (s, rest)
 unfolding ask_step at_key taken comes spelled
 step_back (step.Field f) rest fits = refl
 step_back step.Get rest fits = refl
 step_back step.Inside rest fits = refl
 step_back (step.At k) rest fits = next _ (key_form_back k (sign_token (codes "]") ∷ rest) fits) refl
 
-steps_go : (n : ℕ) (s : AskStep) (ss : List AskStep) (rest : List Lexeme) → ask_step (step_tokens s ++ rest) ≡ Some (s, rest) → ask_steps n rest ≡ Some (ss, []) → ask_steps (suc n) (step_tokens s ++ rest) ≡ Some (s ∷ ss, [])
+steps_go : (n : ℕ) (s : AskStep) (ss : List AskStep) (rest : List Lexeme) → ask_step
+    (step_tokens s ++ rest) ≡ Some (s, rest) → ask_steps n rest ≡ Some (ss, []) → ask_steps (suc n)
+    (step_tokens s ++ rest) ≡ Some (s ∷ ss, [])
 unfolding ask_steps
 steps_go n (step.Field f) ss rest is more = next _ is (next _ more refl)
 steps_go n step.Get ss rest is more = next _ is (next _ more refl)
@@ -446,8 +553,10 @@ unfolding ask_steps
 no_steps zero = refl
 no_steps (suc n) = refl
 
-pub steps_back : (n : ℕ) (ss : List AskStep) → AllOf FitStep ss → length ss ≤ n → ask_steps n (flat_map step_tokens ss) ≡ Some (ss, [])
+pub steps_back : (n : ℕ) (ss : List AskStep) → AllOf FitStep ss → length ss ≤ n → ask_steps n
+    (flat_map step_tokens ss) ≡ Some (ss, [])
 steps_back n [] all short = no_steps n
 steps_back zero (s ∷ ss) all short = absurd (omega (arith, short))
 steps_back (suc n) (s ∷ ss) all short =
-    steps_go n s ss (flat_map step_tokens ss) (step_back s (flat_map step_tokens ss) all.0) (steps_back n ss all.1 (omega (arith, short)))
+    steps_go n s ss (flat_map step_tokens ss) (step_back s (flat_map step_tokens ss) all.0)
+    (steps_back n ss all.1 (omega (arith, short)))

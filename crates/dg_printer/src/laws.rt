@@ -3,9 +3,9 @@
 ghost use Rattle.dg_printer.specs.Laws.{ReadsBack};
 
 /// Of each document that some bytes read to, the canonical text reads to a document with the same
-/// items, where none of its lines is longer than 4,096 bytes. Parentheses that aren't needed are
-/// left out, but spaces are added where none stood, so a line may grow. How many bytes a document
-/// may have in all is no matter of what it reads to.
+/// items, where none of its lines is longer than a line may be, 4,096 bytes. A line may grow, since
+/// spaces are printed where none stood. How many bytes a document may have in all is not asked here:
+/// what bytes read to doesn't depend on it.
 pub fn reads_back()
     ensures exact { ReadsBack }
 {}
