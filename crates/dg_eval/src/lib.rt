@@ -1,0 +1,2 @@
+//! What an evaluation gives, and what an ask comes to.
+#![tactic(auto)]
