@@ -4,3 +4,6 @@ pub mod Operations
 pub mod Bodies
 pub mod Meaning
 pub mod Asks
+pub mod Report
+pub mod At
+pub mod Laws

@@ -12,7 +12,7 @@ use Rattle.dg_value.specs.declared.value.Failure.{Failure}
 use Rattle.dg_value.specs.declared.value.Kept.{Kept, out-Kept}
 use Rattle.dg_value.specs.declared.value.Kept.TheVariants as kept
 use Rattle.dg_value.specs.declared.value.Value.{Value, out-Value}
-use Rattle.dg_value.specs.declared.value.Value.TheOpen.{Value-F, Kept-F}
+use Rattle.dg_value.specs.declared.value.Kept.TheOpen.{Kept-F, Value-F}
 use Rattle.dg_value.specs.declared.value.Value.TheVariants as value
 use Rattle.dg_value.specs.Same.{Layer}
 use Rattle.dg_eval.specs.Runs.{Run, gives, fails, failed, mistyped}

@@ -4,7 +4,7 @@ use Rattle.std.specs.Str.{bytes_eq}
 use Rattle.std.specs.Ordering.{int_eq}
 use Rattle.dg_value.specs.declared.value.Value.{Value, out-Value}
 use Rattle.dg_value.specs.declared.value.Kept.{Kept}
-use Rattle.dg_value.specs.declared.value.Value.TheOpen.{Value-F}
+use Rattle.dg_value.specs.declared.value.Kept.TheOpen.{Value-F}
 use Rattle.dg_value.specs.Places.{same_place}
 
 -- a value as its outermost form with its parts
