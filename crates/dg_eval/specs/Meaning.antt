@@ -166,20 +166,20 @@ first_target doc i n = first_of (deps doc n)
 
 -- The producer at the end of a chain of unscoped `binds` lines and exposed entries, each of which
 -- passes on what its one dependency gives; so many links are passed at most.
-abbrev pub producer_from : Doc → ℕ → ℕ → ℕ → Option Target
+abbrev pub producer_from : Doc → ℕ → ℕ → ℕ → Run Target
 producer_from doc zero i k = None
 producer_from doc (suc times) i k =
-    option_and_then
-    (λ n. if is_producer doc n then Some (record { inst = i; slot = k })
-    else option_and_then (λ t. producer_from doc times t.inst t.slot) (first_target doc i n))
-    (node_at doc k)
+    option_map_or
+    (λ n. if is_producer doc n then gives (record { inst = i; slot = k })
+    else option_map_or (λ t. producer_from doc times t.inst t.slot) (first_target doc i n) mistyped)
+    (node_at doc k) mistyped
 
 -- where an `await` of a way to a slot leads: to the end of the chain, where the slot is a
 -- production, and else to what a `get` gives
 abbrev pub awaited_slot : Doc → Eval → ℕ → ℕ → ℕ → Place → Run End
 awaited_slot doc below times i k q =
     if option_map_or (is_production doc) (node_at doc k) false
-    then or_mistyped (option_map (λ t. producer_end t.inst t.slot) (producer_from doc times i k))
+    then and_then (producer_from doc times i k) (λ t. gives (producer_end t.inst t.slot))
     else and_then (instance doc below i k q) (λ v. gives (value_end v))
 
 abbrev pub awaited_at : Doc → Eval → ℕ → Layer → Place → Run End

@@ -1,0 +1,3 @@
+pub mod RunGrowth
+pub mod BodyGrowth
+pub mod GrowthLemmas
