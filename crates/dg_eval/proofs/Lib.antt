@@ -1,3 +1,5 @@
 pub mod RunGrowth
 pub mod BodyGrowth
 pub mod GrowthLemmas
+pub mod RunResults
+pub mod ValueLemmas
