@@ -3,3 +3,4 @@ pub mod BodyGrowth
 pub mod GrowthLemmas
 pub mod RunResults
 pub mod ValueLemmas
+pub mod BodyResults
