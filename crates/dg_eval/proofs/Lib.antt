@@ -4,3 +4,4 @@ pub mod GrowthLemmas
 pub mod RunResults
 pub mod ValueLemmas
 pub mod BodyResults
+pub mod ConstantLemmas

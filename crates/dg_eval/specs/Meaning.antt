@@ -156,13 +156,15 @@ given doc below i n q =
 
 -- ---- producers
 
--- the slot that the first dependency of a node finds
+abbrev pub is_instance : Mode → Bool
+is_instance mode.Instance = true
+is_instance other = false
+
+-- the slot that the first dependency of a node finds, where it asks for an instance
 abbrev pub first_target : Doc → ℕ → Node → Option Target
-first_target doc i n = first_of (deps doc n)
-  where
-    first_of : List Dependency → Option Target
-    first_of [] = None
-    first_of (d ∷ ds) = target_of doc i n d
+first_target doc i n =
+    option_and_then (λ d. if is_instance d.mode then target_of doc i n d else None)
+    (slice_get (deps doc n) 0)
 
 -- The producer at the end of a chain of unscoped `binds` lines and exposed entries, each of which
 -- passes on what its one dependency gives; so many links are passed at most.
