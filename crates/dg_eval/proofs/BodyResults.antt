@@ -139,7 +139,7 @@ kept_good : (R : Asked → Type 0) (l : Layer) (k : Kept) → InLayer R l → ke
 kept_good R (Value-F.Outcome j) k all e = subst (AllInKept R) (same_Some j k e) all
 kept_good R other k all e = absurd (none-some k e)
 
-kept_in_good : (R : Asked → Type 0) (v : Value) (k : Kept) → AllIn R v → kept_in v ≡ Some k
+pub kept_in_good : (R : Asked → Type 0) (v : Value) (k : Kept) → AllIn R v → kept_in v ≡ Some k
     → AllInKept R k
 kept_in_good R v k good e = kept_good R (out-Value v) k (layer_of R v good) e
 

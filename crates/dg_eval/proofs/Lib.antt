@@ -5,3 +5,6 @@ pub mod RunResults
 pub mod ValueLemmas
 pub mod BodyResults
 pub mod ConstantLemmas
+pub mod TargetLemmas
+pub mod TotalLemmas
+pub mod NodeLemmas
