@@ -8,3 +8,6 @@ pub mod ConstantLemmas
 pub mod TargetLemmas
 pub mod TotalLemmas
 pub mod NodeLemmas
+pub mod AcceptedDepth
+pub mod LawLemmas
+pub mod TypingCalls
