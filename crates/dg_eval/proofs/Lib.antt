@@ -11,3 +11,4 @@ pub mod NodeLemmas
 pub mod AcceptedDepth
 pub mod LawLemmas
 pub mod TypingCalls
+pub mod NumberedCalls
