@@ -15,7 +15,7 @@ use Rattle.dg_value.specs.declared.value.Value.{Value}
 use Rattle.dg_value.specs.Places.{then_step}
 use Rattle.dg_eval.specs.Runs.{Run}
 use Rattle.dg_eval.specs.Meaning.{node_at, cell_place, content, instance, lazy_content, give, eval}
-use Rattle.dg_eval.specs.Laws.{IsSettled, IsSlotOf, IsEvaluated}
+use Rattle.dg_eval.specs.Laws.{IsSettled, IsSlotOf, IsEvaluated, EvaluationIsTotal}
 use Rattle.dg_eval.proofs.RunGrowth.{Grows, stays}
 use Rattle.dg_eval.proofs.RunResults.{Gives, outcome_gives}
 use Rattle.dg_eval.proofs.GrowthLemmas.{EvalGrows, eval_grows_to, content_grows, lazy_grows, give_grows}
@@ -24,7 +24,8 @@ use Rattle.dg_eval.proofs.BodyResults.{Any}
 use Rattle.dg_eval.proofs.RunResults.{gives_more}
 use Rattle.dg_eval.proofs.TotalLemmas.{Spot, Placed, Placing, CallsAreEdges, Good, instance_has}
 use Rattle.dg_eval.proofs.NodeLemmas.{eval_has}
-use Rattle.dg_eval.proofs.AcceptedDepth.{StagesFindNothing, accepted_shallow}
+use Rattle.dg_eval.proofs.AcceptedDepth.{StagesFindNothing, stages_of_accepted, accepted_shallow}
+use Rattle.dg_eval.proofs.CallLemmas.{calls_are_edges}
 
 -- any place
 abbrev Anywhere : Spot
@@ -98,3 +99,8 @@ total_by_calls doc none ok i k slot =
           (then_step p step.Inside) (omega arith) shallow tt)
           (λ d e le. lazy_grows doc (eval doc d) (eval doc e) (eval_grows_to doc d e le) i k p);
     }
+
+pub evaluation_is_total : EvaluationIsTotal
+evaluation_is_total doc accepted i k slot =
+    let none = stages_of_accepted doc accepted in
+    total_by_calls doc none (calls_are_edges doc none) i k slot

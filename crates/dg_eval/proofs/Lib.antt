@@ -12,3 +12,4 @@ pub mod AcceptedDepth
 pub mod LawLemmas
 pub mod TypingCalls
 pub mod NumberedCalls
+pub mod CallLemmas

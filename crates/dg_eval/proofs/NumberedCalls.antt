@@ -288,3 +288,7 @@ pub tree_numbers : (doc : Doc) (params : List Param) (t : Tree) → NumbersTreeC
 tree_numbers doc params = ind-Tree (NumbersTreeCalls doc params)
     (λ x y is. subst (λ (z : Tree-F Tree). NumbersTreeCalls doc params (roll-Tree z)) is
     (tree_numbers_rolled doc params y))
+
+-- what a leaf calls is what its expression calls
+pub leaf_calls : (e : NExpr) → (tree_part (ntree.Leaf e)).called ≡ (expr_part e).called
+leaf_calls e = tree_called_at (ntree.Leaf e) (NTree-F.Leaf e) (ntree.rolls-Leaf e)
