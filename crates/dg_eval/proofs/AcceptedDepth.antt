@@ -1,11 +1,10 @@
 -- In an accepted document no walk from a node that is no entry has more than 128 nodes.
-use Rattle.std.proofs.Common.{◌≡◌, ◌<◌, ◌≤◌, ℕ, suc, ◌+◌, Bool, true, false, not, ◌&&◌, nat_lt, List, [], ◌∷◌, ◌++◌, flat_map, Contains, refl, sym, ap, subst, ◌∙◌, arith, inl, inr}
+use Rattle.std.proofs.Common.{◌≡◌, ◌≤◌, ℕ, ◌+◌, Bool, true, false, not, ◌&&◌, nat_lt, List, [], ◌∷◌, ◌++◌, flat_map, Contains, refl, sym, subst, ◌∙◌, arith, inl, inr}
 use Rattle.std.proofs.lemmas.Bool.{false≢true, lt-ltb, cases_lt}
 use Rattle.dg_decl.specs.declared.document.Doc.{Doc}
 use Rattle.dg_decl.specs.declared.graph.Node.{Node}
 use Rattle.dg_decl.specs.declared.violation.Violation.{Violation}
-use Rattle.dg_decl.specs.declared.violation.Rule.TheVariants as rule
-use Rattle.dg_decl.specs.Diagnostics.{first_found, stages, diagnostics, IsAccepted}
+use Rattle.dg_decl.specs.Diagnostics.{first_found, diagnostics, IsAccepted}
 use Rattle.dg_decl.specs.Graph.{nodes}
 use Rattle.dg_decl.specs.Sizes.{is_entry, depth, IsDepth}
 use Rattle.dg_decl.specs.Stages.Names.{names_stage}
@@ -88,10 +87,10 @@ pub accepted_shallow : (doc : Doc) → StagesFindNothing doc → (n : Node) → 
 unfolding sizes_stage
 accepted_shallow doc none n among entry edges last w =
     let deep : too_deep doc n ≡ [] =
-        nil_left (too_deep doc n) (too_heavy doc n)
-        (flat_nil (λ n. too_deep doc n ++ too_heavy doc n) (nodes doc) n none.sizes among) in
+    nil_left (too_deep doc n) (too_heavy doc n)
+    (flat_nil (λ n. too_deep doc n ++ too_heavy doc n) (nodes doc) n none.sizes among) in
     let most : depth doc n ≤ 128 = below_limit (depth doc n) (shallow_by doc n entry deep) in
     let rank : IsDepth doc n (depth doc n) =
-        depths_are_longest_walks doc (stages_leave_no_cycle doc none.bindings) n among in
+    depths_are_longest_walks doc (stages_leave_no_cycle doc none.bindings) n among in
     let long : edges + 1 ≤ depth doc n = rank.longest edges last w in
     omega arith

@@ -1,16 +1,16 @@
 -- The run of a body grows with what it sees.
-use Rattle.std.proofs.Common.{◌≡◌, ℕ, suc, ◌+◌, Bool, true, false, cond, List, [], ◌∷◌, ◌++◌, length, map, Option, Some, None, refl, sym, ap, subst, ◌∙◌}
+use Rattle.std.proofs.Common.{◌≡◌, ℕ, suc, ◌+◌, Bool, true, cond, List, [], ◌∷◌, ◌++◌, length, map, Option, Some, None, refl, sym, subst}
 use Rattle.std.specs.List.{filter_map}
 use Rattle.dg_decl.specs.declared.expression.CallName.{CallName}
 use Rattle.dg_decl.specs.declared.expression.CallName.TheVariants as call
 use Rattle.dg_decl.specs.declared.expression.ParamCall.{ParamCall}
 use Rattle.dg_decl.specs.declared.expression.ParamCall.TheVariants as by_name
-use Rattle.dg_slots.specs.declared.body.NExpr.{NExpr, fold-NExpr}
-use Rattle.dg_slots.specs.declared.body.NCond.{NCond, fold-NCond}
+use Rattle.dg_slots.specs.declared.body.NExpr.{NExpr}
+use Rattle.dg_slots.specs.declared.body.NCond.{NCond}
 use Rattle.dg_slots.specs.declared.body.NCond.TheOpen.{NCond-F, NExpr-F}
 use Rattle.dg_slots.specs.declared.body.NCond.TheViews.{roll-NCond, roll-NExpr}
 use Rattle.dg_slots.specs.declared.body.NCond.TheFolds.{ind-NCond, ind-NExpr, map-NCond, map-NExpr, fold-roll-NCond, fold-roll-NExpr}
-use Rattle.dg_slots.specs.declared.body.NTree.{NTree, fold-NTree}
+use Rattle.dg_slots.specs.declared.body.NTree.{NTree}
 use Rattle.dg_slots.specs.declared.body.NTree.TheOpen.{NTree-F}
 use Rattle.dg_slots.specs.declared.body.NTree.TheViews.{roll-NTree}
 use Rattle.dg_slots.specs.declared.body.NTree.TheFolds.{ind-NTree, map-NTree, fold-roll-NTree}
@@ -21,9 +21,9 @@ use Rattle.dg_value.specs.declared.value.Kept.TheOpen.{Value-F}
 use Rattle.dg_value.specs.declared.value.Value.TheVariants as value
 use Rattle.dg_value.specs.Places.{then_step}
 use Rattle.dg_value.specs.Same.{Layer, same_element}
-use Rattle.dg_eval.specs.Runs.{Run, gives, and_then, in_order, mistyped}
-use Rattle.dg_eval.specs.Operations.{or_mistyped, field_in, sum_in, less_in, equal_in, cat_in, only_of, int_in, text_in, decimal_of, size_at, fail_of, value_in, failure_in, is_ok_in, entry_value, keyed, inside_in, has_in}
-use Rattle.dg_eval.specs.Bodies.{End, value_end, producer_end, Around, Part, plain, news_of, called_of, runs_of, looked, look_all, of_two, of_all, has_same, with_element, with_elements, set_of, values_at, values_in, called_with, by_param, inside_or, cond_at, chosen, expr_at, expr_part, cond_part, tree_at, tree_part}
+use Rattle.dg_eval.specs.Runs.{Run, gives, and_then, in_order}
+use Rattle.dg_eval.specs.Operations.{or_mistyped, field_in, sum_in, less_in, equal_in, cat_in, only_of, int_in, text_in, decimal_of, size_at, fail_of, value_in, failure_in, is_ok_in, entry_value, inside_in, has_in}
+use Rattle.dg_eval.specs.Bodies.{End, value_end, Around, Part, runs_of, looked, look_all, of_two, of_all, has_same, with_element, with_elements, set_of, values_at, values_in, called_with, by_param, inside_or, cond_at, chosen, expr_at, expr_part, cond_part, tree_at, tree_part}
 use Rattle.dg_eval.proofs.RunGrowth.{Grows, AllGrow, grows_same, then_grows, if_grows, map_grows, in_order_grows}
 
 -- what a body sees besides the slot and the place

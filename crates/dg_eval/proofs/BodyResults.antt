@@ -1,6 +1,6 @@
 -- The run of a body gives a result, where what it sees does.
-use Rattle.std.proofs.Common.{◌≡◌, ◌<◌, ℕ, zero, suc, ◌+◌, Bool, true, false, not, ◌&&◌, cond, List, [], ◌∷◌, ◌++◌, length, map, slice_get, Contains, Option, Some, None, option_map, refl, sym, ap, subst, ◌∙◌, arith, inl, inr}
-use Rattle.std.specs.Prelude.{ℤ, ◌+ℤ◌, pos, codes, int_lt}
+use Rattle.std.proofs.Common.{◌≡◌, ℕ, suc, ◌+◌, Bool, true, false, cond, List, [], ◌∷◌, ◌++◌, length, map, Contains, Option, Some, None, refl, sym, subst, arith, inl, inr}
+use Rattle.std.specs.Prelude.{ℤ, ◌+ℤ◌, pos, codes}
 use Rattle.std.specs.List.{filter_map, cons_option}
 use Rattle.std.specs.Option.{option_map_or}
 use Rattle.std.specs.Fmt.{signed_decimal}
@@ -12,16 +12,15 @@ use Rattle.dg_decl.specs.declared.expression.CallName.TheVariants as call
 use Rattle.dg_decl.specs.declared.expression.ParamCall.{ParamCall}
 use Rattle.dg_decl.specs.declared.expression.ParamCall.TheVariants as by_name
 use Rattle.dg_decl.proofs.MemberLemmas.{in_got, first_or_rest, none_in, out_option_map}
-use Rattle.dg_slots.specs.declared.body.NExpr.{NExpr, fold-NExpr}
-use Rattle.dg_slots.specs.declared.body.NCond.{NCond, fold-NCond}
+use Rattle.dg_slots.specs.declared.body.NExpr.{NExpr}
+use Rattle.dg_slots.specs.declared.body.NCond.{NCond}
 use Rattle.dg_slots.specs.declared.body.NCond.TheOpen.{NCond-F, NExpr-F}
 use Rattle.dg_slots.specs.declared.body.NCond.TheViews.{roll-NCond, roll-NExpr}
 use Rattle.dg_slots.specs.declared.body.NCond.TheFolds.{ind-NCond, ind-NExpr, map-NCond, map-NExpr, fold-roll-NCond, fold-roll-NExpr}
-use Rattle.dg_slots.specs.declared.body.NTree.{NTree, fold-NTree}
+use Rattle.dg_slots.specs.declared.body.NTree.{NTree}
 use Rattle.dg_slots.specs.declared.body.NTree.TheOpen.{NTree-F}
 use Rattle.dg_slots.specs.declared.body.NTree.TheViews.{roll-NTree}
 use Rattle.dg_slots.specs.declared.body.NTree.TheFolds.{ind-NTree, map-NTree, fold-roll-NTree}
-use Rattle.dg_value.specs.declared.place.Place.{Place}
 use Rattle.dg_value.specs.declared.place.PlaceStep.TheVariants as step
 use Rattle.dg_value.specs.declared.value.Value.{Value, out-Value}
 use Rattle.dg_value.specs.declared.value.Kept.{Kept, out-Kept}
@@ -30,9 +29,9 @@ use Rattle.dg_value.specs.declared.value.Value.TheVariants as value
 use Rattle.dg_value.specs.Places.{then_step}
 use Rattle.dg_value.specs.Same.{Layer, same_element}
 use Rattle.dg_eval.specs.Runs.{Asked, Run, gives, failed, and_then, in_order, mistyped}
-use Rattle.dg_eval.specs.Operations.{or_mistyped, text_limit, field_at, field_in, is_in_range, sum_of, sum_in, with_two, less_in, equal_at, equal_in, all_in, text_within, joined, cat_of, cat_in, only_of, int_in, text_in, decimal_of, size_at, fail_of, kept_at, kept_in, value_of_kept, with_kept, value_in, message_of, failure_in, value_if, is_value, is_ok_in, entry_value, keyed, inside_at, inside_in, has_in}
-use Rattle.dg_eval.specs.Bodies.{End, value_end, producer_end, Around, Part, plain, news_of, called_of, runs_of, looked, look_all, of_two, of_all, has_same, with_element, with_elements, set_of, values_at, values_in, called_with, by_param, inside_or, cond_at, chosen, expr_at, expr_part, cond_part, tree_at, tree_part}
-use Rattle.dg_eval.proofs.RunResults.{Gives, Each, each_append, gives_more, then_gives, if_gives, or_gives, in_order_give}
+use Rattle.dg_eval.specs.Operations.{or_mistyped, field_at, field_in, is_in_range, sum_of, sum_in, with_two, less_in, equal_at, equal_in, all_in, joined, cat_of, cat_in, only_of, int_in, text_in, decimal_of, size_at, fail_of, kept_at, kept_in, value_of_kept, value_in, message_of, failure_in, value_if, is_ok_in, entry_value, keyed, inside_at, inside_in, has_in}
+use Rattle.dg_eval.specs.Bodies.{End, value_end, producer_end, Around, Part, called_of, runs_of, looked, look_all, of_two, of_all, has_same, with_element, with_elements, set_of, values_at, values_in, called_with, by_param, inside_or, cond_at, chosen, expr_at, expr_part, cond_part, tree_at, tree_part}
+use Rattle.dg_eval.proofs.RunResults.{Gives, Each, each_append, then_gives, if_gives, or_gives, in_order_give}
 use Rattle.dg_eval.proofs.ValueLemmas.{AllIn, AllInKept, InEntry, InLayer, InKeptLayer, layer_of, kept_layer_of, in_text, in_int, in_object, in_set, in_map}
 
 -- what is so of each of a list is so of one
@@ -366,7 +365,7 @@ chosen_total R C P b x y gb gx gy s h n c calls =
     let front = callable_split R C s c b.called x.called both.0 in
     let Q : ℕ → Type 0 = λ k. Callable R C s k y.called in
     let same : c + length (b.called ++ x.called) ≡ (c + length b.called) + length x.called =
-        lengths b.called x.called c in
+    lengths b.called x.called c in
     then_gives Any P (b.run s n c) _ (gb s h n c front.0)
     (λ holds u. if_gives P holds _ _ (gx s h (n + b.news) (c + length b.called) front.1)
     (gy s h ((n + b.news) + x.news) ((c + length b.called) + length x.called)

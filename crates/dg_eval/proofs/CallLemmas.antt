@@ -1,5 +1,5 @@
 -- In an accepted document what a body calls are ways to values, along edges.
-use Rattle.std.proofs.Common.{◌≡◌, ◌<◌, ℕ, zero, suc, ◌+◌, Bool, true, false, cond, not, ◌&&◌, ◌||◌, nat_lt, is_some, List, [], ◌∷◌, ◌++◌, length, map, filter, filter_map, position, slice_get, Contains, Option, Some, None, option_map, option_and_then, unwrap_or, inl, inr, refl, sym, ap, subst, ◌∙◌, arith}
+use Rattle.std.proofs.Common.{◌≡◌, ◌<◌, ℕ, suc, ◌+◌, Bool, true, false, cond, not, ◌||◌, nat_lt, is_some, List, [], ◌∷◌, ◌++◌, length, map, filter, filter_map, position, slice_get, Contains, Option, Some, None, option_map, option_and_then, unwrap_or, inr, refl, sym, ap, subst, ◌∙◌, arith}
 use Rattle.std.specs.List.{position_or_len, find, cons_option}
 use Rattle.std.specs.Option.{option_map_or}
 use Rattle.std.proofs.lemmas.Bool.{false≢true, lt-ltb}
@@ -30,15 +30,15 @@ use Rattle.dg_decl.specs.declared.item.Param.{Param}
 use Rattle.dg_decl.specs.Document.{Statement, statements}
 use Rattle.dg_decl.specs.Bodies.{called_params, calls_of_expr, calls_of_tree}
 use Rattle.dg_decl.specs.Names.{item_at, params_of}
-use Rattle.dg_decl.specs.Typing.{is_named, type_of_param, checks, tree_checks}
+use Rattle.dg_decl.specs.Typing.{is_named}
 use Rattle.dg_decl.specs.Stages.Types.{Placed, placed, each_placed, is_result_use, types_of, bad_type, optional_of_inject, has_its_type, type_mismatch, types_stage}
-use Rattle.dg_decl.specs.Graph.{Dependency, asked, of_param, deps, target, node_of, nodes, EdgeTo, edge_to, needed_edges, is_param, is_called_mode, called_at, called_edge, calls_of as names_called, edges, is_direct, is_called, needed_targets}
+use Rattle.dg_decl.specs.Graph.{Dependency, asked, of_param, deps, target, node_of, EdgeTo, edge_to, needed_edges, is_param, is_called_mode, called_at, called_edge, calls_of as names_called, edges, is_direct, is_called, needed_targets}
 use Rattle.dg_decl.proofs.MemberLemmas.{none_in, in_got, in_map, out_map, in_filter, in_filter_map, out_option_map, out_and_then, out_list_of}
 use Rattle.dg_decl.proofs.NodeCandidates.{statement_at}
 use Rattle.dg_slots.specs.declared.body.NTree.{NTree}
 use Rattle.dg_slots.specs.declared.body.NTree.TheVariants as ntree
-use Rattle.dg_slots.specs.Numbered.{param_index, param_number, numbered_expr, numbered_tree}
-use Rattle.dg_eval.specs.Bodies.{Part, tree_part}
+use Rattle.dg_slots.specs.Numbered.{param_number, numbered_expr, numbered_tree}
+use Rattle.dg_eval.specs.Bodies.{tree_part}
 use Rattle.dg_eval.specs.Meaning.{body_of}
 use Rattle.dg_eval.specs.At.{calls_of}
 use Rattle.dg_eval.proofs.RunResults.{Each}
@@ -83,7 +83,7 @@ way_mode : (u : TypeUse) (r : Request) → request_of u ≡ Some r → IsWay (ou
 unfolding request_of asked_of plain_of producing_of
 way_mode u r e way =
     let o = out_option_map _ (first_of_two (plain_at (out-Shape u.shape)) (producing_at (out-Shape
-        u.shape))) r e in
+    u.shape))) r e in
     let P : Mode → Type 0 = IsDeferred in
     subst P (ap (λ (r : Request). r.mode) o.2) (way_mode_at (out-Shape u.shape) o.0 o.1 way)
 
@@ -190,7 +190,7 @@ position_is : {A : Type 0} (p : A → Bool) (xs : List A) → position_or_len p 
     → position p xs ≡ Some (position_or_len p xs)
 position_is p xs within =
     let lt : nat_lt (position_or_len p xs) (length xs) ≡ true =
-        lt-ltb (position_or_len p xs) (length xs) within in
+    lt-ltb (position_or_len p xs) (length xs) within in
     rw lt refl
 
 -- a name that is called, and the number of its parameter
@@ -212,12 +212,12 @@ stands_for params n p way number =
     let o = out_option_map (λ (p : Param). p.shape.shape) (find (is_named n) params) way.0 way.1 in
     let k : ℕ = position_or_len (is_named n) params in
     let got : slice_get params (position_or_len (is_named n) params) ≡ Some o.0 =
-        sym (find_at (is_named n) params) ∙ o.1 in
+    sym (find_at (is_named n) params) ∙ o.1 in
     let within : position_or_len (is_named n) params < length params =
-        slice_get_within params (position_or_len (is_named n) params) o.0 got in
+    slice_get_within params (position_or_len (is_named n) params) o.0 got in
     let same : position_or_len (is_named n) params ≡ p =
-        sym (ap (λ (i : Option ℕ). unwrap_or i 0) (position_is (is_named n) params within))
-        ∙ number in
+    sym (ap (λ (i : Option ℕ). unwrap_or i 0) (position_is (is_named n) params within))
+    ∙ number in
     let P : Shape → Type 0 = λ t. IsWay (out-Shape t) in
     let Q : ℕ → Type 0 = λ j. slice_get params j ≡ Some o.0 in
     let R : ℕ → Type 0 = λ j. j < length params in
@@ -270,9 +270,9 @@ edge_needed : (doc : Doc) (n : Node) (name : Bytes) (p : ℕ) (t : Node)
 unfolding edges
 edge_needed doc n name p t c is =
     let here = in_filter_map (called_edge (deps doc n)) (names_called doc n) name (call_edge p t) c
-        is in
+    is in
     let among = Contains-append_right (needed_edges (deps doc n))
-        (filter_map (called_edge (deps doc n)) (names_called doc n)) (call_edge p t) here in
+    (filter_map (called_edge (deps doc n)) (names_called doc n)) (call_edge p t) here in
     in_map (λ (e : EdgeTo). e.to)
     (filter (λ (e : EdgeTo). is_direct e || is_called e) (edges doc n)) (call_edge p t)
     (in_filter (λ (e : EdgeTo). is_direct e || is_called e) (edges doc n) (call_edge p t) among
@@ -283,11 +283,11 @@ called_place : (doc : Doc) (class : ℕ) (params : List Param) (n : Bytes) (p : 
     → position (is_param n) (map (asked_for doc class) params) ≡ Some p
 called_place doc class params n p s =
     let same : position_or_len (is_param n) (map (asked_for doc class) params) ≡ p =
-        place_mapped doc class n params ∙ s.place in
+    place_mapped doc class n params ∙ s.place in
     let lt : p < length params = s.within in
     let within : position_or_len (is_param n) (map (asked_for doc class) params)
-        < length (map (asked_for doc class) params) =
-        rw (same, length-map) lt in
+    < length (map (asked_for doc class) params) =
+    rw (same, length-map) lt in
     position_is (is_param n) (map (asked_for doc class) params) within ∙ ap Some same
 
 -- ---- what the stage of types says of an item
@@ -317,12 +317,12 @@ unfolding types_stage
 item_fits doc none m x e =
     let s = statement_at doc m x e in
     let all = flat_nil (λ s. bad_type doc s ++ optional_of_inject doc s ++ type_mismatch doc s)
-        (statements doc) s.0 none.types s.1 in
+    (statements doc) s.0 none.types s.1 in
     let two = nil_left (bad_type doc s.0 ++ optional_of_inject doc s.0) (type_mismatch doc s.0) all
-        in
+    in
     let front = nil_left (bad_type doc s.0) (optional_of_inject doc s.0) two in
     let back = nil_right (bad_type doc s.0 ++ optional_of_inject doc s.0) (type_mismatch doc s.0)
-        all in
+    all in
     let P : Item → Type 0 = ItemFits doc in
     subst P s.3 (record {
       typed = no_mismatch doc s.0 back;
@@ -348,9 +348,8 @@ unfolding types_of called_params
 item_calls doc (item.Provides mk scope n params result e) body p fits is c =
     let same = same_Some (ntree.Leaf (numbered_expr doc params e)) body is in
     let calls : (tree_part body).called ≡ number_all params (calls_of_expr e) =
-        ap (λ (t : NTree). (tree_part t).called) (sym same)
-        ∙ leaf_calls (numbered_expr doc params e) ∙ expr_numbers doc params e in
-    (
+    ap (λ (t : NTree). (tree_part t).called) (sym same)
+    ∙ leaf_calls (numbered_expr doc params e) ∙ expr_numbers doc params e in (
       params_ask is_plain_use plain_asks params (placed (is_result_use mk) result ∷ [])
           fits.allowed,
       name_of_number params (calls_of_expr e) p
@@ -360,8 +359,7 @@ item_calls doc (item.Provides mk scope n params result e) body p fits is c =
 item_calls doc (item.Produces mk n params result t) body p fits is c =
     let same = same_Some (numbered_tree doc params t) body is in
     let calls : (tree_part body).called ≡ number_all params (calls_of_tree t) =
-        ap (λ (t : NTree). (tree_part t).called) (sym same) ∙ tree_numbers doc params t in
-    (
+    ap (λ (t : NTree). (tree_part t).called) (sym same) ∙ tree_numbers doc params t in (
       params_ask is_use use_asks params (placed (is_result_use mk) result ∷ []) fits.allowed,
       name_of_number params (calls_of_tree t) p (tree_ways doc params t result.shape fits.typed)
           (moved (tree_part body).called (number_all params (calls_of_tree t)) p calls c),
@@ -377,7 +375,7 @@ member_calls : (doc : Doc) → StagesFindNothing doc → (class m p : ℕ)
     → Contains (calls_of doc (member_node class m)) p → Member doc m p
 member_calls doc none class m p c =
     let o = out_list_of (λ (b : NTree). (tree_part b).called)
-        (option_and_then (body_of doc) (item_at doc m)) p c in
+    (option_and_then (body_of doc) (item_at doc m)) p c in
     let x = out_and_then (body_of doc) (item_at doc m) o.0 o.1 in
     (x.0, x.1, item_calls doc x.0 o.0 p (item_fits doc none m x.0 x.1) x.2 o.2)
 
@@ -405,10 +403,10 @@ needed_by doc none class (node.Bound (binding.Member m)) p d t c got so found =
     let are = deps_are doc class m f.0 f.1 calls.0 in
     let s = stands_for (params_of f.0) name.0 p name.2 name.3 in
     let place : position (is_param name.0) (deps doc (member_node class m)) ≡ Some p =
-        ap (λ (ds : List Dependency). position (is_param name.0) ds) are
-        ∙ called_place doc class (params_of f.0) name.0 p s in
+    ap (λ (ds : List Dependency). position (is_param name.0) ds) are
+    ∙ called_place doc class (params_of f.0) name.0 p s in
     let names : called_params f.0 ≡ names_called doc (member_node class m) =
-        sym (ap (λ (o : Option Item). option_map_or called_params o []) f.1) in
+    sym (ap (λ (o : Option Item). option_map_or called_params o []) f.1) in
     edge_needed doc (member_node class m) name.0 p t
     (moved (called_params f.0) (names_called doc (member_node class m)) name.0 names name.1)
     (edge_from (deps doc (member_node class m)) name.0 p d t place got so found)

@@ -1,23 +1,22 @@
 -- The value of a constant holds no cell and no Lazy.
-use Rattle.std.proofs.Common.{◌≡◌, ℕ, suc, ◌+◌, List, [], ◌∷◌, map, Option, Some, None, option_map, option_and_then, slice_get, sym, subst}
+use Rattle.std.proofs.Common.{ℕ, suc, ◌+◌, List, [], ◌∷◌, map, option_and_then, slice_get, sym, subst}
 use Rattle.std.specs.Prelude.{pos}
 use Rattle.dg_decl.specs.declared.document.Doc.{Doc}
 use Rattle.dg_decl.proofs.MemberLemmas.{out_option_map}
-use Rattle.dg_slots.specs.declared.body.NExpr.{NExpr, fold-NExpr}
+use Rattle.dg_slots.specs.declared.body.NExpr.{NExpr}
 use Rattle.dg_slots.specs.declared.body.NCond.{NCond}
-use Rattle.dg_slots.specs.declared.body.NCond.TheOpen.{NCond-F, NExpr-F}
-use Rattle.dg_slots.specs.declared.body.NCond.TheViews.{roll-NCond, roll-NExpr}
-use Rattle.dg_slots.specs.declared.body.NCond.TheFolds.{ind-NExpr, map-NCond, map-NExpr, fold-roll-NExpr}
+use Rattle.dg_slots.specs.declared.body.NCond.TheOpen.{NExpr-F}
+use Rattle.dg_slots.specs.declared.body.NCond.TheViews.{roll-NExpr}
+use Rattle.dg_slots.specs.declared.body.NCond.TheFolds.{ind-NExpr, map-NExpr, fold-roll-NExpr}
 use Rattle.dg_slots.specs.declared.body.NCond.{fold-NCond}
 use Rattle.dg_slots.specs.declared.session.Inst.{Inst}
 use Rattle.dg_value.specs.declared.place.Place.{Place}
 use Rattle.dg_value.specs.declared.place.PlaceRoot.TheVariants as root
 use Rattle.dg_value.specs.declared.place.PlaceStep.TheVariants as step
-use Rattle.dg_value.specs.declared.value.Value.{Value}
 use Rattle.dg_value.specs.Places.{at_root, then_step}
 use Rattle.dg_eval.specs.Runs.{Asked}
 use Rattle.dg_eval.specs.Operations.{or_mistyped}
-use Rattle.dg_eval.specs.World.{inst_at, Constant, news_of, values_of, no_constant, constant_at, constant_in, constant, bound_value}
+use Rattle.dg_eval.specs.World.{inst_at, Constant, values_of, no_constant, constant_at, constant_in, constant, bound_value}
 use Rattle.dg_eval.proofs.RunResults.{Gives, Each, or_gives}
 use Rattle.dg_eval.proofs.ValueLemmas.{AllIn, in_text, in_int, in_object}
 

@@ -1,5 +1,5 @@
 -- Evaluation at a depth grows with the depth: more depth changes nothing.
-use Rattle.std.proofs.Common.{◌≡◌, ◌≢◌, ◌≤◌, ◌<◌, inl, inr, ℕ, zero, suc, Bool, true, false, cond, List, [], ◌∷◌, ◌++◌, map, Option, Some, None, option_map, option_and_then, refl, sym, ap, subst, ◌∙◌, arith}
+use Rattle.std.proofs.Common.{◌≡◌, ◌≤◌, inl, inr, ℕ, zero, suc, Bool, true, false, List, [], ◌∷◌, ◌++◌, map, Option, Some, None, option_and_then, refl, subst, arith}
 use Rattle.std.specs.List.{enumerate_from}
 use Rattle.std.specs.Option.{option_map_or}
 use Rattle.std.proofs.lemmas.Bool.{cases_lt}
@@ -20,7 +20,7 @@ use Rattle.dg_decl.specs.declared.item.Item.{Item}
 use Rattle.dg_decl.specs.declared.item.Item.TheVariants as item
 use Rattle.dg_decl.specs.Names.{item_at}
 use Rattle.dg_decl.specs.Lookup.{contributions}
-use Rattle.dg_decl.specs.Graph.{Dependency, deps, node_of}
+use Rattle.dg_decl.specs.Graph.{deps, node_of}
 use Rattle.dg_decl.specs.Sizes.{is_producer, is_production}
 use Rattle.dg_value.specs.declared.place.Place.{Place}
 use Rattle.dg_value.specs.declared.place.PlaceStep.TheVariants as step
@@ -32,8 +32,8 @@ use Rattle.dg_value.specs.Same.{Layer}
 use Rattle.dg_eval.specs.Runs.{Run, cell, lazy, gives, and_then, asking, all, mistyped}
 use Rattle.dg_eval.specs.World.{bound_value}
 use Rattle.dg_eval.specs.Operations.{or_mistyped, only_of, elements_in, kept_in, value_if}
-use Rattle.dg_eval.specs.Bodies.{End, value_end, producer_end, set_of, tree_part}
-use Rattle.dg_eval.specs.Meaning.{node_at, is_cell, cell_place, Eval, content, held, instance, lazy_content, give, got_at, look_at, look, Target, target_of, step_to, given_one, given, first_target, producer_from, awaited_slot, awaited_at, param_in, around, body_of, end_with, object_of, of_end, member_end, gives_elements, outcomes_in, added_by, added_by_all, set_of_added, multi_of, optional_of, binding_at, eval_node, eval}
+use Rattle.dg_eval.specs.Bodies.{End, value_end, producer_end, tree_part}
+use Rattle.dg_eval.specs.Meaning.{node_at, is_cell, cell_place, Eval, content, held, instance, lazy_content, give, got_at, look_at, look, target_of, step_to, given_one, given, first_target, producer_from, awaited_slot, awaited_at, param_in, around, body_of, end_with, object_of, of_end, member_end, gives_elements, outcomes_in, added_by, added_by_all, set_of_added, multi_of, optional_of, binding_at, eval_node, eval}
 use Rattle.dg_eval.specs.Laws.{MoreDepthChangesNothing}
 use Rattle.dg_eval.proofs.RunGrowth.{Grows, grows_same, grows_on, stays, then_grows, asking_grows, outcome_grows, if_grows, all_grow}
 use Rattle.dg_eval.proofs.BodyGrowth.{Seen, SeenGrows, set_grows, tree_grows}

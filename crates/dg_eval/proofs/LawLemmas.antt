@@ -1,12 +1,10 @@
 -- Evaluation is total, where called parameters are ways along edges.
-use Rattle.std.proofs.Common.{◌≡◌, ◌≢◌, ◌≤◌, ◌<◌, ℕ, suc, Bool, true, false, List, Option, Some, None, Result, Ok, Err, refl, sym, ap, subst, ◌∙◌, arith, rules}
+use Rattle.std.proofs.Common.{◌≢◌, ◌≤◌, ℕ, Some, None, sym, arith, rules}
 use Rattle.std.specs.Prelude.{IsSome}
 use Rattle.std.proofs.lemmas.Option.{none-some}
 use Rattle.dg_types.specs.declared.key.Mode.{Mode}
 use Rattle.dg_types.specs.declared.key.Mode.TheVariants as mode
 use Rattle.dg_decl.specs.declared.document.Doc.{Doc}
-use Rattle.dg_decl.specs.declared.graph.Node.{Node}
-use Rattle.dg_decl.specs.Diagnostics.{IsAccepted}
 use Rattle.dg_decl.specs.Graph.{nodes}
 use Rattle.dg_decl.proofs.MemberLemmas.{in_got}
 use Rattle.dg_value.specs.declared.place.Place.{Place}
@@ -14,12 +12,12 @@ use Rattle.dg_value.specs.declared.place.PlaceStep.TheVariants as step
 use Rattle.dg_value.specs.declared.value.Value.{Value}
 use Rattle.dg_value.specs.Places.{then_step}
 use Rattle.dg_eval.specs.Runs.{Run}
-use Rattle.dg_eval.specs.Meaning.{node_at, cell_place, content, instance, lazy_content, give, eval}
+use Rattle.dg_eval.specs.Meaning.{cell_place, content, instance, lazy_content, give, eval}
 use Rattle.dg_eval.specs.Laws.{IsSettled, IsSlotOf, IsEvaluated, EvaluationIsTotal}
 use Rattle.dg_eval.proofs.RunGrowth.{Grows, stays}
 use Rattle.dg_eval.proofs.RunResults.{Gives, outcome_gives}
-use Rattle.dg_eval.proofs.GrowthLemmas.{EvalGrows, eval_grows_to, content_grows, lazy_grows, give_grows}
-use Rattle.dg_eval.proofs.TargetLemmas.{Shallow, ShallowSlot}
+use Rattle.dg_eval.proofs.GrowthLemmas.{eval_grows_to, content_grows, lazy_grows, give_grows}
+use Rattle.dg_eval.proofs.TargetLemmas.{ShallowSlot}
 use Rattle.dg_eval.proofs.BodyResults.{Any}
 use Rattle.dg_eval.proofs.RunResults.{gives_more}
 use Rattle.dg_eval.proofs.TotalLemmas.{Spot, Placed, Placing, CallsAreEdges, Good, instance_has}

@@ -1,24 +1,17 @@
 -- Each node gives a result at its depth, and so does evaluation.
-use Rattle.std.proofs.Common.{◌≡◌, ◌<◌, ◌≤◌, ℕ, zero, suc, ◌+◌, Bool, true, false, cond, List, [], ◌∷◌, ◌++◌, length, get_or, map, filter_map, slice_get, Contains, Option, Some, None, option_map, option_and_then, refl, sym, ap, subst, ◌∙◌, arith, inl, inr}
+use Rattle.std.proofs.Common.{◌≡◌, ◌<◌, ◌≤◌, ℕ, zero, suc, ◌+◌, Bool, true, false, List, [], ◌∷◌, length, get_or, map, slice_get, Option, Some, None, option_and_then, refl, sym, ap, subst, ◌∙◌, arith}
 use Rattle.std.specs.List.{enumerate_from}
 use Rattle.std.specs.Option.{option_map_or}
-use Rattle.std.proofs.lemmas.Bool.{false≢true}
-use Rattle.std.proofs.lemmas.Option.{none-some, same_Some, slice_get-get_or, slice_get_within, get_or_from_slice_get, slice_get_read}
-use Rattle.std.proofs.lemmas.List.Elements.{Contains-append_left}
-use Rattle.std.proofs.lemmas.List.Quantifiers.{position-Some}
+use Rattle.std.proofs.lemmas.Option.{none-some, same_Some, slice_get-get_or}
 use Rattle.dg_types.specs.declared.key.Core.{Core}
 use Rattle.dg_types.specs.declared.key.Core.TheVariants as core
 use Rattle.dg_types.specs.declared.key.Inner.{Inner}
 use Rattle.dg_types.specs.declared.key.Inner.TheVariants as inner
 use Rattle.dg_types.specs.declared.key.Key.{Key}
 use Rattle.dg_types.specs.declared.key.MapKeyVal.{MapKeyVal}
-use Rattle.dg_types.specs.declared.key.Mode.{Mode}
-use Rattle.dg_types.specs.declared.key.Mode.TheVariants as mode
-use Rattle.dg_num.specs.Walks.{Walk}
 use Rattle.dg_decl.specs.declared.document.Doc.{Doc}
 use Rattle.dg_decl.specs.declared.binding.BindRef.{BindRef}
 use Rattle.dg_decl.specs.declared.binding.BindRef.TheVariants as binding
-use Rattle.dg_decl.specs.declared.graph.EdgeKind.TheVariants as edge
 use Rattle.dg_decl.specs.declared.graph.Node.{Node}
 use Rattle.dg_decl.specs.declared.graph.NodeKind.{NodeKind}
 use Rattle.dg_decl.specs.declared.graph.NodeKind.TheVariants as node
@@ -26,11 +19,9 @@ use Rattle.dg_decl.specs.declared.item.Item.{Item}
 use Rattle.dg_decl.specs.declared.item.Item.TheVariants as item
 use Rattle.dg_decl.specs.Names.{item_at}
 use Rattle.dg_decl.specs.Lookup.{contributions}
-use Rattle.dg_decl.specs.Graph.{Dependency, deps, target, node_of, nodes, number_of, same_node, EdgeTo, edge_kind, edge_to, needed_edges, called_edge, calls_of as names_called, edges, is_direct, is_called, needed_targets, is_called_mode}
-use Rattle.dg_decl.specs.Sizes.{is_producer, is_production}
+use Rattle.dg_decl.specs.Graph.{deps, node_of, nodes}
 use Rattle.dg_decl.specs.Stages.Bindings.{map_keys_of}
 use Rattle.dg_decl.proofs.MemberLemmas.{in_got, out_option_map, out_and_then}
-use Rattle.dg_decl.proofs.NodeEquality.{node_decides}
 use Rattle.dg_slots.specs.declared.body.NTree.{NTree}
 use Rattle.dg_slots.specs.Numbered.{number_of_class_item}
 use Rattle.dg_value.specs.declared.place.Place.{Place}
@@ -41,19 +32,18 @@ use Rattle.dg_value.specs.declared.value.Kept.TheVariants as kept
 use Rattle.dg_value.specs.declared.value.Value.TheVariants as value
 use Rattle.dg_value.specs.Places.{then_step}
 use Rattle.dg_value.specs.Same.{Layer}
-use Rattle.dg_eval.specs.Runs.{Asked, cell, lazy, Run, gives, and_then, asking, all, outcome_of, mistyped}
-use Rattle.dg_eval.specs.World.{up, bound_value}
+use Rattle.dg_eval.specs.Runs.{Asked, cell, Run, gives, and_then, all}
 use Rattle.dg_eval.specs.Operations.{or_mistyped, only_of, elements_at, elements_in, kept_in, value_if}
-use Rattle.dg_eval.specs.Bodies.{End, value_end, producer_end, Around, Part, set_of, tree_part}
-use Rattle.dg_eval.specs.Meaning.{node_at, is_cell, cell_place, Eval, content, held, instance, lazy_content, give, got_at, look_at, look, Target, target_of, asking_inst, step_to, given_one, given, is_instance, first_target, producer_from, awaited_slot, awaited_at, param_in, around, body_of, end_with, object_of, of_end, member_end, gives_elements, outcomes_in, added_by, added_by_all, set_of_added, pairs, multi_of, optional_of, binding_at, eval_node, eval}
-use Rattle.dg_eval.specs.At.{called_mode, calls_of}
-use Rattle.dg_eval.proofs.RunResults.{Gives, Each, each_append, each_map, gives_more, then_gives, asking_gives, outcome_gives, if_gives, or_gives, Along, all_give}
-use Rattle.dg_eval.proofs.ValueLemmas.{names_in, AllIn, InEntry, InLayer, layer_of, in_object, in_held, in_set, in_map, in_provider, in_provider_lazy, in_lazy, in_none, in_some, in_failed, in_good, out_provider, out_provider_lazy, out_lazy}
+use Rattle.dg_eval.specs.Bodies.{End, value_end, producer_end, Around, tree_part}
+use Rattle.dg_eval.specs.Meaning.{node_at, cell_place, Eval, content, look, Target, target_of, given, param_in, around, body_of, end_with, object_of, of_end, member_end, gives_elements, outcomes_in, added_by, added_by_all, set_of_added, pairs, multi_of, optional_of, binding_at, eval_node, eval}
+use Rattle.dg_eval.specs.At.{calls_of}
+use Rattle.dg_eval.proofs.RunResults.{Gives, Each, each_append, then_gives, asking_gives, or_gives, Along}
+use Rattle.dg_eval.proofs.ValueLemmas.{AllIn, InEntry, InLayer, layer_of, in_object, in_set, in_map, in_none, in_some, in_good}
 use Rattle.dg_eval.proofs.BodyResults.{AtEnd, Sees, Callable, Looks, only_gives, set_gives, value_of_good, tree_total, kept_in_good}
 use Rattle.dg_eval.proofs.ConstantLemmas.{bound_gives}
-use Rattle.dg_eval.proofs.TargetLemmas.{Shallow, ShallowSlot, none_shallow, more_shallow, needed_shallow}
+use Rattle.dg_eval.proofs.TargetLemmas.{Shallow, ShallowSlot, none_shallow, needed_shallow}
 use Rattle.dg_eval.proofs.BodyResults.{each_in}
-use Rattle.dg_eval.proofs.TotalLemmas.{Spot, Placed, Placing, IsDeferred, CallsAreEdges, Within, Good, more_given, HasAll, instance_has, lazy_has, look_has, FitsMode, Fits, Given, option_gives, given_has, along_good, param_got, got_fits, Ends, awaited_fits}
+use Rattle.dg_eval.proofs.TotalLemmas.{Spot, Placing, CallsAreEdges, Within, Good, more_given, HasAll, look_has, FitsMode, Fits, Given, option_gives, given_has, along_good, param_got, got_fits, Ends, awaited_fits}
 
 -- ---- calls of a body
 
@@ -70,9 +60,9 @@ callable_from R C s c (p ∷ ps) h =
     let same : c + 0 ≡ c = omega arith in
     let first : CallsAt R C s c p = subst P same (h 0 (omega arith)) in
     let rest = callable_from R C s (suc c) ps (λ j lt. (let Q : ℕ → Type 0 = λ m. CallsAt R C s m
-        (get_or ps j 0) in
-        let next : c + suc j ≡ suc c + j = omega arith in
-        subst Q next (h (suc j) (omega arith)))) in
+    (get_or ps j 0) in
+    let next : c + suc j ≡ suc c + j = omega arith in
+    subst Q next (h (suc j) (omega arith)))) in
     (first.0, first.1, rest)
 
 abbrev Params : Doc → Spot → ℕ → ℕ → Node → List Value → Type 0
@@ -92,7 +82,7 @@ call_has doc N L pl ok d f has k i s n q le is sh at vs all c p e =
           (λ v got. (let r = param_got doc L k i n vs p v all got in
           let fits : Fits doc L k i n r.0 v = r.2 in
           let way : (t : Target) × (target_of doc i n r.0 ≡ Some t) × FitsMode L r.0.mode t v =
-              fits.1 in
+          fits.1 in
           got_fits doc N L pl d f has k r.0.mode way.0 v (then_step q (step.Call (suc c))) le
           (ok.deferred n p r.0 among called r.1) way.2
           (λ so. needed_shallow doc k i n r.0 way.0 sh way.1
@@ -103,7 +93,7 @@ call_has doc N L pl ok d f has k i s n q le is sh at vs all c p e =
           (λ v got. (let r = param_got doc L k i n vs p v all got in
           let fits : Fits doc L k i n r.0 v = r.2 in
           let way : (t : Target) × (target_of doc i n r.0 ≡ Some t) × FitsMode L r.0.mode t v =
-              fits.1 in
+          fits.1 in
           awaited_fits doc N L pl d f has k r.0.mode way.0 v (then_step q (step.Call (suc c))) le
           (ok.deferred n p r.0 among called r.1) way.2
           (λ so. needed_shallow doc k i n r.0 way.0 sh way.1
@@ -133,8 +123,8 @@ body_has doc N L pl ok d f has k i s class m q le is sh at vs all x body ex eb =
     let n : Node = member_node class m in
     let ends : ℕ → ℕ → Type 0 = λ i s. ShallowSlot doc k s in
     let calls : calls_of doc (member_node class m) ≡ (tree_part body).called =
-        ap (λ (o : Option NTree). option_map_or (λ (b : NTree). (tree_part b).called) o [])
-        (ap (option_and_then (body_of doc)) ex ∙ eb) in
+    ap (λ (o : Option NTree). option_map_or (λ (b : NTree). (tree_part b).called) o [])
+    (ap (option_and_then (body_of doc)) ex ∙ eb) in
     tree_total (Within doc L k) (λ i s. ShallowSlot doc k s) body (around doc f d s q vs)
     (sees doc N L pl d f has k s q le vs
     (along_good doc L k i (member_node class m) 0 (deps doc (member_node class m)) vs all)) 0 0

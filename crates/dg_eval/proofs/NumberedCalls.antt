@@ -1,30 +1,29 @@
 -- The parameters that a body by numbers calls are the numbers of those that the body calls.
-use Rattle.std.proofs.Common.{◌≡◌, ℕ, Bool, List, [], ◌∷◌, ◌++◌, map, flat_map, refl, sym, ap, subst, ◌∙◌, append_assoc}
+use Rattle.std.proofs.Common.{◌≡◌, ℕ, Bool, List, [], ◌∷◌, ◌++◌, map, refl, sym, ap, subst, ◌∙◌, append_assoc}
 use Rattle.dg_lex.specs.Bytes.{Bytes}
 use Rattle.dg_decl.specs.declared.document.Doc.{Doc}
 use Rattle.dg_decl.specs.declared.item.Param.{Param}
 use Rattle.dg_decl.specs.declared.expression.ParamCall.{ParamCall}
 use Rattle.dg_decl.specs.declared.expression.ParamCall.TheVariants as by_name
-use Rattle.dg_decl.specs.declared.expression.CallName.{CallName}
-use Rattle.dg_decl.specs.declared.expression.Expr.{Expr, fold-Expr}
-use Rattle.dg_decl.specs.declared.expression.Cond.{Cond, fold-Cond}
+use Rattle.dg_decl.specs.declared.expression.Expr.{Expr}
+use Rattle.dg_decl.specs.declared.expression.Cond.{Cond}
 use Rattle.dg_decl.specs.declared.expression.Cond.TheOpen.{Cond-F, Expr-F}
 use Rattle.dg_decl.specs.declared.expression.Cond.TheViews.{roll-Cond, roll-Expr}
 use Rattle.dg_decl.specs.declared.expression.Cond.TheFolds.{ind-Cond, ind-Expr, map-Cond, map-Expr, fold-roll-Cond, fold-roll-Expr}
-use Rattle.dg_decl.specs.declared.expression.Tree.{Tree, fold-Tree}
+use Rattle.dg_decl.specs.declared.expression.Tree.{Tree}
 use Rattle.dg_decl.specs.declared.expression.Tree.TheOpen.{Tree-F}
 use Rattle.dg_decl.specs.declared.expression.Tree.TheViews.{roll-Tree}
 use Rattle.dg_decl.specs.declared.expression.Tree.TheFolds.{ind-Tree, map-Tree, fold-roll-Tree}
 use Rattle.dg_decl.specs.Bodies.{cond_calls_at, called_by_name, all_of, expr_calls_at, calls_of_expr, calls_of_cond, tree_calls_at, calls_of_tree}
-use Rattle.dg_slots.specs.declared.body.NExpr.{NExpr, fold-NExpr}
+use Rattle.dg_slots.specs.declared.body.NExpr.{NExpr}
 use Rattle.dg_slots.specs.declared.body.NExpr.TheVariants as nexpr
-use Rattle.dg_slots.specs.declared.body.NCond.{NCond, fold-NCond}
+use Rattle.dg_slots.specs.declared.body.NCond.{NCond}
 use Rattle.dg_slots.specs.declared.body.NCond.TheVariants as ncond
 use Rattle.dg_slots.specs.declared.body.NCond.TheOpen.{NCond-F, NExpr-F}
 use Rattle.dg_slots.specs.declared.body.NCond.TheViews.{roll-NCond, roll-NExpr}
 use Rattle.dg_slots.specs.declared.body.NTree.TheViews.{roll-NTree}
 use Rattle.dg_slots.specs.declared.body.NCond.TheFolds.{map-NCond, map-NExpr, fold-roll-NCond, fold-roll-NExpr}
-use Rattle.dg_slots.specs.declared.body.NTree.{NTree, fold-NTree}
+use Rattle.dg_slots.specs.declared.body.NTree.{NTree}
 use Rattle.dg_slots.specs.declared.body.NTree.TheVariants as ntree
 use Rattle.dg_slots.specs.declared.body.NTree.TheOpen.{NTree-F}
 use Rattle.dg_slots.specs.declared.body.NTree.TheFolds.{map-NTree, fold-roll-NTree}

@@ -1,8 +1,7 @@
 -- A run grows into another: where it has a result the other is the same. What is made of runs grows
 -- with them.
-use Rattle.std.proofs.Common.{◌≡◌, ◌≢◌, Bool, true, false, cond, List, [], ◌∷◌, ◌++◌, map, Option, Some, None, Result, Ok, Err, refl, sym, ap, subst, ◌∙◌}
+use Rattle.std.proofs.Common.{◌≡◌, ◌≢◌, Bool, true, false, cond, List, [], ◌∷◌, map, Some, None, Ok, Err, refl, sym, ap, subst}
 use Rattle.dg_value.specs.declared.value.Value.{Value}
-use Rattle.dg_value.specs.declared.value.Failure.{Failure}
 use Rattle.dg_eval.specs.Runs.{Asked, Run, gives, before, and_then, asking, both, all, in_order, outcome_of}
 
 abbrev pub Grows : {A : Type 0} → Run A → Run A → Type 0

@@ -1,13 +1,12 @@
 -- A run gives: it has a result, and a value that it gives has a property.
-use Rattle.std.proofs.Common.{◌≡◌, ℕ, Bool, true, false, cond, List, [], ◌∷◌, ◌++◌, map, Contains, Option, Some, None, Result, Ok, Err, refl, sym, ap, subst, ◌∙◌, arith}
+use Rattle.std.proofs.Common.{◌≡◌, Bool, true, false, cond, List, [], ◌∷◌, ◌++◌, map, Contains, Option, Some, None, Ok, Err, refl}
 use Rattle.dg_decl.proofs.MemberLemmas.{in_front}
 use Rattle.dg_decl.proofs.NodeWalks.{in_rest}
 use Rattle.dg_value.specs.declared.value.Value.{Value}
 use Rattle.dg_value.specs.declared.value.Value.TheVariants as value
-use Rattle.dg_value.specs.declared.value.Kept.{Kept}
 use Rattle.dg_value.specs.declared.value.Kept.TheVariants as kept
 use Rattle.dg_value.specs.declared.value.Failure.{Failure}
-use Rattle.dg_eval.specs.Runs.{Asked, Run, gives, before, and_then, asking, both, all, in_order, outcome_of, mistyped}
+use Rattle.dg_eval.specs.Runs.{Asked, Run, before, and_then, asking, both, all, in_order, outcome_of}
 use Rattle.dg_eval.specs.Operations.{or_mistyped}
 
 abbrev pub Gives : {A : Type 0} → (A → Type 0) → Run A → Type 0

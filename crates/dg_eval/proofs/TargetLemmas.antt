@@ -1,5 +1,5 @@
 -- How deep nodes are, and that what a node needs is less deep.
-use Rattle.std.proofs.Common.{◌≡◌, ◌<◌, ◌≤◌, ℕ, zero, suc, ◌+◌, Bool, true, false, cond, ◌||◌, List, [], ◌∷◌, length, get_or, map, filter, filter_map, slice_get, Contains, Option, Some, None, option_map, option_and_then, refl, sym, ap, subst, ◌∙◌, arith}
+use Rattle.std.proofs.Common.{◌≡◌, ◌<◌, ℕ, zero, suc, ◌+◌, Bool, true, false, cond, ◌||◌, List, [], ◌∷◌, get_or, filter, filter_map, slice_get, Contains, Option, Some, None, option_map, refl, sym, ap, subst, ◌∙◌, arith}
 use Rattle.std.specs.List.{enumerate_from}
 use Rattle.std.proofs.lemmas.Bool.{false≢true}
 use Rattle.std.proofs.lemmas.Option.{none-some, same_Some, slice_get-get_or}
@@ -47,13 +47,13 @@ unfolding edges
 direct_edge doc n m d t c direct found =
     let e : EdgeTo = record { kind = edge_kind d.mode; param = suc m; to = t } in
     let is : edge_to (edge_kind d.mode) (suc m) d ≡ Some (record { kind = edge_kind d.mode; param = suc m; to = t }) =
-        ap (option_map (λ (x : Node). record { kind = edge_kind d.mode; param = suc m; to = x })) found in
+    ap (option_map (λ (x : Node). record { kind = edge_kind d.mode; param = suc m; to = x })) found in
     let among = in_filter_map (λ (p : ℕ × Dependency). edge_to (edge_kind p.1.mode) (suc p.0) p.1)
-        (enumerate_from 0 (deps doc n)) (m, d)
-        (record { kind = edge_kind d.mode; param = suc m; to = t }) c is in
+    (enumerate_from 0 (deps doc n)) (m, d)
+    (record { kind = edge_kind d.mode; param = suc m; to = t }) c is in
     let here = Contains-append_left (needed_edges (deps doc n))
-        (filter_map (called_edge (deps doc n)) (names_called doc n))
-        (record { kind = edge_kind d.mode; param = suc m; to = t }) among in
+    (filter_map (called_edge (deps doc n)) (names_called doc n))
+    (record { kind = edge_kind d.mode; param = suc m; to = t }) among in
     in_map (λ (e : EdgeTo). e.to) (filter (λ (e : EdgeTo). is_direct e || is_called e) (edges doc n))
     (record { kind = edge_kind d.mode; param = suc m; to = t })
     (in_filter (λ (e : EdgeTo). is_direct e || is_called e) (edges doc n)
@@ -115,7 +115,7 @@ pub first_shallow : (doc : Doc) (k i : ℕ) (n : Node) (t : Target) → Shallow 
     → first_target doc i n ≡ Some t → ShallowSlot doc k t.slot
 first_shallow doc k i n t sh e =
     let d = out_and_then (λ (d : Dependency). cond (is_instance d.mode) (target_of doc i n d) None)
-        (slice_get (deps doc n) 0) t e in
+    (slice_get (deps doc n) 0) t e in
     let both = if_some (is_instance d.0.mode) (target_of doc i n d.0) t d.2 in
     direct_shallow doc k i n 0 d.0 t sh both.1 (first_enumerated (deps doc n) d.0 d.1)
     (instance_direct d.0.mode both.0)

@@ -1,57 +1,30 @@
 -- Evaluation has a result at the depth of a node: the number of nodes on its longest walk.
-use Rattle.std.proofs.Common.{◌≡◌, ◌<◌, ◌≤◌, ℕ, zero, suc, ◌+◌, Bool, true, false, cond, List, [], ◌∷◌, ◌++◌, length, get_or, map, filter_map, slice_get, Contains, Option, Some, None, option_map, option_and_then, refl, sym, ap, subst, ◌∙◌, arith, inl, inr}
+use Rattle.std.proofs.Common.{◌≡◌, ◌<◌, ◌≤◌, ℕ, zero, suc, ◌+◌, true, false, List, [], ◌∷◌, length, get_or, slice_get, Contains, Option, Some, None, refl, sym, ap, subst, ◌∙◌, arith}
 use Rattle.std.specs.List.{enumerate_from}
 use Rattle.std.specs.Option.{option_map_or}
-use Rattle.std.proofs.lemmas.Bool.{false≢true}
-use Rattle.std.proofs.lemmas.Option.{none-some, same_Some, slice_get-get_or, slice_get_within, get_or_from_slice_get, slice_get_read}
-use Rattle.std.proofs.lemmas.List.Elements.{Contains-append_left}
-use Rattle.std.proofs.lemmas.List.Quantifiers.{position-Some}
-use Rattle.dg_types.specs.declared.key.Core.{Core}
-use Rattle.dg_types.specs.declared.key.Core.TheVariants as core
-use Rattle.dg_types.specs.declared.key.Inner.{Inner}
-use Rattle.dg_types.specs.declared.key.Inner.TheVariants as inner
-use Rattle.dg_types.specs.declared.key.Key.{Key}
-use Rattle.dg_types.specs.declared.key.MapKeyVal.{MapKeyVal}
+use Rattle.std.proofs.lemmas.Option.{same_Some, slice_get_within, get_or_from_slice_get, slice_get_read}
 use Rattle.dg_types.specs.declared.key.Mode.{Mode}
 use Rattle.dg_types.specs.declared.key.Mode.TheVariants as mode
-use Rattle.dg_num.specs.Walks.{Walk}
 use Rattle.dg_decl.specs.declared.document.Doc.{Doc}
-use Rattle.dg_decl.specs.declared.binding.BindRef.{BindRef}
-use Rattle.dg_decl.specs.declared.binding.BindRef.TheVariants as binding
 use Rattle.dg_decl.specs.declared.graph.EdgeKind.TheVariants as edge
 use Rattle.dg_decl.specs.declared.graph.Node.{Node}
-use Rattle.dg_decl.specs.declared.graph.NodeKind.{NodeKind}
-use Rattle.dg_decl.specs.declared.graph.NodeKind.TheVariants as node
-use Rattle.dg_decl.specs.declared.item.Item.{Item}
-use Rattle.dg_decl.specs.declared.item.Item.TheVariants as item
-use Rattle.dg_decl.specs.Names.{item_at}
-use Rattle.dg_decl.specs.Lookup.{contributions}
-use Rattle.dg_decl.specs.Graph.{Dependency, deps, target, node_of, nodes, number_of, same_node, EdgeTo, edge_kind, edge_to, needed_edges, called_edge, calls_of as names_called, edges, is_direct, is_called, needed_targets, is_called_mode}
+use Rattle.dg_decl.specs.Graph.{Dependency, deps, target, nodes, edge_kind, needed_targets, is_called_mode}
 use Rattle.dg_decl.specs.Sizes.{is_producer, is_production}
-use Rattle.dg_decl.specs.Stages.Bindings.{map_keys_of}
-use Rattle.dg_decl.proofs.MemberLemmas.{in_got, out_option_map, out_and_then}
-use Rattle.dg_decl.proofs.NodeEquality.{node_decides}
-use Rattle.dg_slots.specs.declared.body.NTree.{NTree}
-use Rattle.dg_slots.specs.Numbered.{number_of_class_item}
 use Rattle.dg_value.specs.declared.place.Place.{Place}
 use Rattle.dg_value.specs.declared.place.PlaceStep.TheVariants as step
 use Rattle.dg_value.specs.declared.value.Value.{Value, out-Value}
 use Rattle.dg_value.specs.declared.value.Kept.TheOpen.{Value-F}
-use Rattle.dg_value.specs.declared.value.Kept.TheVariants as kept
 use Rattle.dg_value.specs.declared.value.Value.TheVariants as value
 use Rattle.dg_value.specs.Places.{then_step}
 use Rattle.dg_value.specs.Same.{Layer}
-use Rattle.dg_eval.specs.Runs.{Asked, cell, lazy, Run, gives, and_then, asking, all, outcome_of, mistyped}
-use Rattle.dg_eval.specs.World.{up, bound_value}
-use Rattle.dg_eval.specs.Operations.{or_mistyped, only_of, elements_at, elements_in, kept_in, value_if}
-use Rattle.dg_eval.specs.Bodies.{End, value_end, producer_end, Around, Part, set_of, tree_part}
-use Rattle.dg_eval.specs.Meaning.{node_at, is_cell, cell_place, Eval, content, held, instance, lazy_content, give, got_at, look_at, look, Target, target_of, asking_inst, step_to, given_one, given, is_instance, first_target, producer_from, awaited_slot, awaited_at, param_in, around, body_of, end_with, object_of, of_end, member_end, gives_elements, outcomes_in, added_by, added_by_all, set_of_added, pairs, multi_of, optional_of, binding_at, eval_node, eval}
+use Rattle.dg_eval.specs.Runs.{Asked, cell, lazy, Run, asking, all, mistyped}
+use Rattle.dg_eval.specs.Bodies.{End}
+use Rattle.dg_eval.specs.Meaning.{node_at, is_cell, cell_place, Eval, content, held, instance, lazy_content, give, got_at, look_at, look, Target, target_of, step_to, given_one, given, first_target, producer_from, awaited_slot, awaited_at}
 use Rattle.dg_eval.specs.At.{called_mode, calls_of}
-use Rattle.dg_eval.proofs.RunResults.{Gives, Each, each_append, each_map, gives_more, then_gives, asking_gives, outcome_gives, if_gives, or_gives, Along, all_give}
-use Rattle.dg_eval.proofs.ValueLemmas.{names_in, AllIn, InEntry, InLayer, layer_of, in_object, in_held, in_set, in_map, in_provider, in_provider_lazy, in_lazy, in_none, in_some, in_failed, in_good, out_provider, out_provider_lazy, out_lazy}
-use Rattle.dg_eval.proofs.BodyResults.{AtEnd, Sees, Callable, Looks, only_gives, set_gives, value_of_good, tree_total, kept_in_good}
-use Rattle.dg_eval.proofs.ConstantLemmas.{bound_gives}
-use Rattle.dg_eval.proofs.TargetLemmas.{Shallow, ShallowSlot, none_shallow, more_shallow, needed_shallow, direct_shallow, first_shallow}
+use Rattle.dg_eval.proofs.RunResults.{Gives, Each, each_map, gives_more, then_gives, asking_gives, outcome_gives, if_gives, Along, all_give}
+use Rattle.dg_eval.proofs.ValueLemmas.{names_in, AllIn, InLayer, layer_of, in_held, in_provider, in_provider_lazy, in_lazy, in_failed, in_good, out_provider, out_provider_lazy, out_lazy}
+use Rattle.dg_eval.proofs.BodyResults.{AtEnd}
+use Rattle.dg_eval.proofs.TargetLemmas.{Shallow, ShallowSlot, none_shallow, more_shallow, direct_shallow, first_shallow}
 
 -- ---- where nodes and Lazies may stand
 
@@ -255,7 +228,7 @@ pub param_got : (doc : Doc) (L : Spot) (k i : ℕ) (n : Node) (vs : List Value) 
     → (d : Dependency) × (slice_get (deps doc n) p ≡ Some d) × Fits doc L k i n d v
 param_got doc L k i n vs p v all e =
     let r = along_got doc L k i n 0 (deps doc n) vs p v all (slice_get_within vs p v e)
-        (get_or_from_slice_get vs p v v e) in
+    (get_or_from_slice_get vs p v v e) in
     (r.0, slice_get_read (deps doc n) (length (deps doc n)) p r.0 refl r.1 (sym r.2), r.3)
 
 -- ---- calls

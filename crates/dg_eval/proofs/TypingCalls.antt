@@ -1,10 +1,10 @@
 -- What a body calls by `get` and `await` has a type that gives a way to a value, where the body has
 -- its type.
-use Rattle.std.proofs.Common.{◌≡◌, ◌⊎◌, inl, inr, ℕ, zero, suc, Bool, true, false, cond, ◌&&◌, ◌||◌, List, [], ◌∷◌, ◌++◌, map, flat_map, Option, Some, None, option_map, option_and_then, refl, sym, ap, subst, ◌∙◌}
+use Rattle.std.proofs.Common.{◌≡◌, ◌⊎◌, inl, inr, Bool, true, false, ◌&&◌, List, [], ◌∷◌, ◌++◌, map, Option, Some, None, refl, sym, ap, subst, ◌∙◌}
 use Rattle.std.specs.List.{list_all}
 use Rattle.std.specs.Option.{option_map_or}
 use Rattle.std.proofs.lemmas.Bool.{false≢true, or_cases}
-use Rattle.std.proofs.lemmas.Option.{none-some, same_Some}
+use Rattle.std.proofs.lemmas.Option.{none-some}
 use Rattle.dg_lex.specs.Bytes.{Bytes}
 use Rattle.dg_types.specs.declared.shape.Shape.{Shape, out-Shape}
 use Rattle.dg_types.specs.declared.shape.Shape.TheVariants as shape
@@ -16,19 +16,19 @@ use Rattle.dg_decl.specs.declared.expression.CallName.{CallName}
 use Rattle.dg_decl.specs.declared.expression.CallName.TheVariants as call
 use Rattle.dg_decl.specs.declared.expression.ParamCall.{ParamCall}
 use Rattle.dg_decl.specs.declared.expression.ParamCall.TheVariants as by_name
-use Rattle.dg_decl.specs.declared.expression.Expr.{Expr, fold-Expr}
-use Rattle.dg_decl.specs.declared.expression.Cond.{Cond, fold-Cond}
+use Rattle.dg_decl.specs.declared.expression.Expr.{Expr}
+use Rattle.dg_decl.specs.declared.expression.Cond.{Cond}
 use Rattle.dg_decl.specs.declared.expression.Cond.TheOpen.{Cond-F, Expr-F}
 use Rattle.dg_decl.specs.declared.expression.Cond.TheViews.{roll-Cond, roll-Expr}
 use Rattle.dg_decl.specs.declared.expression.Cond.TheFolds.{ind-Cond, ind-Expr, map-Cond, map-Expr, fold-roll-Cond, fold-roll-Expr}
-use Rattle.dg_decl.specs.declared.expression.Tree.{Tree, fold-Tree}
+use Rattle.dg_decl.specs.declared.expression.Tree.{Tree}
 use Rattle.dg_decl.specs.declared.expression.Tree.TheOpen.{Tree-F}
 use Rattle.dg_decl.specs.declared.expression.Tree.TheViews.{roll-Tree}
 use Rattle.dg_decl.specs.declared.expression.Tree.TheFolds.{ind-Tree, map-Tree, fold-roll-Tree}
 use Rattle.dg_decl.specs.Bodies.{cond_calls_at, called_by_name, all_of, expr_calls_at, calls_of_expr, calls_of_cond, tree_calls_at, calls_of_tree}
 use Rattle.dg_decl.specs.Names.{fields_of}
-use Rattle.dg_decl.specs.Typing.{is_assignable, type_of_param, type_of_field, got_at, awaited_at, inside_at, has_size_at, part, if_so, Typed, giving, checking, arguments_check, only, one_checks, one_has_size, members_check, typed_call, type_by_name, typed_or_else, is_typed_at, typed_at, typed, is_typed_condition, checks, tree_checks_at, tree_checks}
-use Rattle.dg_decl.proofs.MemberLemmas.{out_and_then, out_option_map}
+use Rattle.dg_decl.specs.Typing.{is_assignable, type_of_param, got_at, awaited_at, inside_at, has_size_at, part, if_so, Typed, giving, checking, arguments_check, one_checks, one_has_size, members_check, typed_call, type_by_name, is_typed_at, typed_at, typed, is_typed_condition, tree_checks_at, tree_checks}
+use Rattle.dg_decl.proofs.MemberLemmas.{out_and_then}
 use Rattle.dg_decl.proofs.NodeEquality.{first_so, second_so}
 use Rattle.dg_eval.proofs.RunResults.{Each, each_append}
 
@@ -199,9 +199,9 @@ if_ways_at : (doc : Doc) (params : List Param) (c : CondPart doc params)
     → Each (HasWay params) (calls_of_cond c.0 ++ (calls_of_expr a.0 ++ calls_of_expr b.0))
 if_ways_at doc params c a b w e =
     let front = first_so (is_typed_condition doc params c.0 && (typed doc params a.0).checks w)
-        ((typed doc params b.0).checks w) e in
+    ((typed doc params b.0).checks w) e in
     let last = second_so (is_typed_condition doc params c.0 && (typed doc params a.0).checks w)
-        ((typed doc params b.0).checks w) e in
+    ((typed doc params b.0).checks w) e in
     each_append (HasWay params) (calls_of_cond c.0) (calls_of_expr a.0 ++ calls_of_expr b.0)
     (c.1 (first_so (is_typed_condition doc params c.0) ((typed doc params a.0).checks w) front))
     (each_append (HasWay params) (calls_of_expr a.0) (calls_of_expr b.0)
@@ -283,7 +283,7 @@ expr_ways_at doc params (Expr-F.ByName f p) h = by_name_ways doc params f p h
 expr_ways_at doc params (Expr-F.OrElse p a) h =
     let g = given_type doc _ h in
     let o = out_and_then (λ b. if_so ((typed doc params a.0).checks b) b)
-        (part inside_at (type_of_param params p)) g.0 g.1 in
+    (part inside_at (type_of_param params p)) g.0 g.1 in
     checks_ways doc params a o.0 (if_so_holds _ o.0 g.0 o.2)
 
 cond_ways_rolled : (doc : Doc) (params : List Param)
@@ -347,9 +347,9 @@ tree_ways_at doc params (Tree-F.Await p) w h =
     (part_way awaited_at awaited_way params p o.0 o.1, tt)
 tree_ways_at doc params (Tree-F.If c a b) w h =
     let front = first_so (is_typed_condition doc params c && tree_checks doc params a.0 w)
-        (tree_checks doc params b.0 w) h in
+    (tree_checks doc params b.0 w) h in
     let last = second_so (is_typed_condition doc params c && tree_checks doc params a.0 w)
-        (tree_checks doc params b.0 w) h in
+    (tree_checks doc params b.0 w) h in
     each_append (HasWay params) (calls_of_cond c) (calls_of_tree a.0 ++ calls_of_tree b.0)
     (cond_ways doc params c
     (first_so (is_typed_condition doc params c) (tree_checks doc params a.0 w) front))

@@ -1,6 +1,6 @@
 -- The cells that a value holds and the Lazies in it, and what of them is so of a value and its parts.
-use Rattle.std.proofs.Common.{◌≡◌, ℕ, Bool, true, false, cond, List, [], ◌∷◌, ◌++◌, map, Contains, Option, Some, None, option_map, refl, sym, ap, subst, ◌∙◌, arith}
-use Rattle.std.specs.Prelude.{ℤ, flat_map}
+use Rattle.std.proofs.Common.{◌≡◌, ℕ, List, [], ◌∷◌, ◌++◌, map, Some, None, sym, ap, subst, ◌∙◌}
+use Rattle.std.specs.Prelude.{ℤ}
 use Rattle.dg_lex.specs.Bytes.{Bytes}
 use Rattle.dg_types.specs.declared.key.MapKeyVal.{MapKeyVal}
 use Rattle.dg_value.specs.declared.place.Place.{Place}
@@ -10,7 +10,7 @@ use Rattle.dg_value.specs.declared.value.Kept.TheVariants as kept
 use Rattle.dg_value.specs.declared.value.Value.{Value, out-Value, fold-Value}
 use Rattle.dg_value.specs.declared.value.Value.TheVariants as value
 use Rattle.dg_value.specs.declared.value.Kept.TheOpen.{Kept-F, Value-F}
-use Rattle.dg_value.specs.declared.value.Kept.TheViews.{roll-Kept, roll-Value, out-roll-Value, out-roll-Kept, roll-out-Value, roll-out-Kept}
+use Rattle.dg_value.specs.declared.value.Kept.TheViews.{roll-Kept, roll-Value, out-roll-Value, roll-out-Value, roll-out-Kept}
 use Rattle.dg_value.specs.declared.value.Kept.TheFolds.{map-Kept, map-Value, fold-roll-Kept, fold-roll-Value}
 use Rattle.dg_value.specs.Same.{Layer}
 use Rattle.dg_eval.specs.Runs.{Asked, cell, lazy}
@@ -168,7 +168,7 @@ pub layer_of : (R : Asked → Type 0) (v : Value) → AllIn R v → InLayer R (o
 layer_of R v all =
     let Q : List Asked → Type 0 = Each R in
     let same : names_in v ≡ layer_names (out-Value v) =
-        ap names_in (sym (roll-out-Value v)) ∙ names_rolled (out-Value v) in
+    ap names_in (sym (roll-out-Value v)) ∙ names_rolled (out-Value v) in
     to_layer R (out-Value v) (subst Q same all)
 
 kept_to_layer : (R : Asked → Type 0) (l : Kept-F Kept Value) → Each R (kept_layer_names l)
@@ -180,7 +180,7 @@ pub kept_layer_of : (R : Asked → Type 0) (k : Kept) → AllInKept R k → InKe
 kept_layer_of R k all =
     let Q : List Asked → Type 0 = Each R in
     let same : names_in_kept k ≡ kept_layer_names (out-Kept k) =
-        ap names_in_kept (sym (roll-out-Kept k)) ∙ kept_names_rolled (out-Kept k) in
+    ap names_in_kept (sym (roll-out-Kept k)) ∙ kept_names_rolled (out-Kept k) in
     kept_to_layer R (out-Kept k) (subst Q same all)
 
 -- ---- each form
