@@ -1,7 +1,9 @@
 //! Module members as bindings.
 #![tactic(auto)]
 
-mod bindings;
+mod keys;
+mod members;
 
-pub use bindings::bindings;
 pub use dg_decl::{Bind, BindKind};
+pub use keys::key_of_use;
+pub use members::bindings;
