@@ -5,5 +5,7 @@ mod keys;
 mod members;
 
 pub use dg_decl::{Bind, BindKind};
-pub use keys::key_of_use;
 pub use members::bindings;
+
+#[cfg(test)]
+mod tests;

@@ -131,7 +131,7 @@ fn binding_of(alloc: Global, statement: &Statement) -> Result<Option<Bind>, NoMe
     }
 }
 
-fn bindings_of(alloc: Global, statements: &[Statement]) -> Result<Vec<Bind>, NoMemory>
+pub fn bindings_of(alloc: Global, statements: &[Statement]) -> Result<Vec<Bind>, NoMemory>
     ensures exact { IfOk result (λ found.
         found.items ≡ filter_map lookup.binding_of statements.now) }
 {
