@@ -84,6 +84,12 @@ chains_are doc classes chains e is = record {
       ∙ chain_is doc classes c e lt;
 }
 
+pub chain_in : {X : Type 0} (items : X → List ℕ) (chains : List X) (c : ℕ)
+    → option_map_or items (slice_get chains c) [] ≡ unwrap_or (slice_get (map items chains) c) []
+chain_in items [] c = refl
+chain_in items (x ∷ xs) zero = refl
+chain_in items (x ∷ xs) (suc c) = chain_in items xs c
+
 pub few_classes : (doc : Doc) (classes : List Class) → IsBounded doc → classes ≡ component_classes doc
     → length classes < 2 ^ 32
 few_classes doc classes bounded e =

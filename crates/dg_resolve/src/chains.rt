@@ -1,7 +1,8 @@
 //! The chains of component classes.
 
 ghost use Rattle.std.specs.List.{range_with_len};
-ghost use Rattle.std.specs.Prelude.{◌≡◌, ◌<◌, ◌^◌, ◌++◌, IfOk, OnOk, map, length};
+ghost use Rattle.std.specs.Option.{option_map_or};
+ghost use Rattle.std.specs.Prelude.{◌≡◌, ◌<◌, ◌^◌, ◌++◌, [], IfOk, OnOk, map, length, slice_get};
 ghost use Rattle.dg_decl.specs.Components.{walk};
 ghost use Rattle.dg_resolve.specs.Chains as chains;
 
@@ -62,4 +63,14 @@ pub fn chains(alloc: Global, classes: &[Class]) -> Result<Vec<Vec<u32>>, NoMemor
         made.push(chain(alloc, classes, class)?)?;
     }
     Ok(made)
+}
+
+/// The chain of a class.
+pub fn chain_at(chains: &Vec<Vec<u32>>, class: u32) -> &[u32]
+    ensures exact { result.now ≡ option_map_or (λ c. c.items) (slice_get chains.now.items class) [] }
+{
+    match chains.get(class as usize) {
+        Some(chain) => chain.as_slice(),
+        None => &[],
+    }
 }

@@ -14,6 +14,7 @@ ghost use Rattle.dg_resolve.specs.Keys as keys;
 ghost use Rattle.dg_resolve.specs.Known as known;
 
 use crate::along::{carrier, first_item, first_opening, found_in, in_chain, is_in_chain, opened};
+use crate::chains::chain_at;
 use crate::classes::ClassTables;
 use crate::keys::{is_optional, opening_key};
 use crate::tables::{AllTables, tables};
@@ -104,11 +105,7 @@ impl<'a> Lookups<'a> {
         requires { class < class_count self.now }
         ensures exact { result.now ≡ root_first self.now class }
     {
-        self.tables
-            .chains
-            .get(class as usize)
-            .map(|chain| chain.as_slice())
-            .unwrap_or_default()
+        chain_at(&self.tables.chains, class)
     }
 
     fn explicit_in_chain(&self, alloc: Global, class: u32, key: &Key) -> Result<Vec<Owned>, NoMemory>

@@ -1,8 +1,7 @@
-use Rattle.std.proofs.Common.{◌<◌, ℕ, [], List, map, Option, unwrap_or, sym, ap, subst, ◌∙◌, rules}
-use Rattle.std.proofs.lemmas.Option.{slice_get-map}
+use Rattle.std.proofs.Common.{List, map, subst, ◌∙◌}
 use Rattle.dg_decl.specs.declared.document.Doc.{Doc}
-use Rattle.dg_decl.specs.Components.{class_count}
 use Rattle.dg_resolve.specs.Known.{HaveChains}
+use Rattle.dg_resolve.proofs.QueryLemmas.{chain_in}
 use Rattle.dg_resolve.proofs.lookups.Lookups.chain.Goals as goal
 
 pub returns : goal.returns
@@ -11,7 +10,7 @@ returns c =
     let chains = c.self.inside.tables.chains.items in
     let have = subst (λ (d : Doc). HaveChains d (map (λ v. v.items) chains)) c.self.view_is c.self.invariant.tables.chains in
     record {
-      exact = (search rules)
-          ∙ ap (λ (o : Option (List ℕ)). unwrap_or o []) (sym (slice_get-map (λ v. v.items) chains class))
+      exact = c.chain_at.ensures.exact
+          ∙ chain_in (λ v. v.items) chains class
           ∙ have.each class c.requires;
     }
