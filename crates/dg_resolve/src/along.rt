@@ -7,6 +7,7 @@ ghost use Rattle.dg_resolve.specs.Keys as keys;
 ghost use Rattle.dg_resolve.specs.Known as known;
 
 use crate::classes::ClassTables;
+use crate::keys::opening_key;
 use dg_decl::{BindRef, Class, Found, Owned};
 use dg_types::{Key, Name, NoMemory};
 use sqlite_items::Items;
@@ -70,7 +71,7 @@ pub fn first_item(tables: &ClassTables, chain: &[u32], key: &Key) -> Option<u32>
 
 /// The same under the opening key of this one. It takes no memory, and goes over all keys of the
 /// classes.
-pub fn first_opening(tables: &ClassTables, chain: &[u32], key: &Key) -> Option<u32>
+fn first_opening(tables: &ClassTables, chain: &[u32], key: &Key) -> Option<u32>
     ensures exact { result ≡ known.first_item tables.now (keys.opening_key key.now) chain.now }
 {
     for class in chain {
@@ -79,6 +80,22 @@ pub fn first_opening(tables: &ClassTables, chain: &[u32], key: &Key) -> Option<u
         }
     }
     None
+}
+
+/// The item of the first binding under the opening key of this one. Where there is no memory for
+/// that key, it goes over all keys of the classes.
+pub fn first_under(
+    alloc: Global,
+    tables: &ClassTables,
+    chain: &[u32],
+    key: &Key,
+) -> Option<u32>
+    ensures exact { result ≡ known.first_item tables.now (keys.opening_key key.now) chain.now }
+{
+    match opening_key(alloc, key) {
+        Ok(opening) => first_item(tables, chain, &opening),
+        Err(NoMemory) => first_opening(tables, chain, key),
+    }
 }
 
 fn is_name_among(name: &[u8], names: &[Name]) -> bool

@@ -13,7 +13,7 @@ ghost use Rattle.dg_decl.specs.Names.{item_at};
 ghost use Rattle.dg_resolve.specs.Keys as keys;
 ghost use Rattle.dg_resolve.specs.Known as known;
 
-use crate::along::{carrier, first_item, first_opening, found_in, in_chain, is_in_chain, opened};
+use crate::along::{carrier, first_under, found_in, in_chain, is_in_chain, opened};
 use crate::chains::chain_at;
 use crate::classes::ClassTables;
 use crate::keys::{is_optional, opening_key};
@@ -290,9 +290,6 @@ impl<'a> Lookups<'a> {
     {
         let chain = self.chain(class);
         let tables = self.opening_tables(key);
-        match opening_key(self.alloc, key) {
-            Ok(opening) => first_item(tables, chain, &opening),
-            Err(NoMemory) => first_opening(tables, chain, key),
-        }
+        first_under(self.alloc, tables, chain, key)
     }
 }

@@ -17,8 +17,8 @@ returns-then-is_optional c =
 pub returns : goal.returns
 returns c =
     record {
-      exact = subst (λ (v : List Owned). IfOk c.contributions_to.result (λ owned. owned.items ≡ v))
+      exact = subst (λ (v : List Owned). IfOk c.contributions_to-2.result (λ owned. owned.items ≡ v))
           (ap (contributions_to c.args.self.now c.args.class) c.in_ok-plain.ensures.exact
           ∙ contributions_are c.args.self.now c.args.class c.args.key.now (sym c.is_optional.ensures.exact ∙ c.if-is_optional.false))
-          c.contributions_to.ensures.exact;
+          c.contributions_to-2.ensures.exact;
     }
