@@ -1,1 +1,4 @@
+pub mod ClassSets
 pub mod Faults
+pub mod Rows
+pub mod Tables

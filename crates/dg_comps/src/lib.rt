@@ -1,9 +1,14 @@
 //! The component classes of a document, and the stage of components.
 #![tactic(auto)]
 
+mod building;
+mod class_set;
 mod fault;
-mod tree;
+mod headers;
+mod modules;
+mod parents;
+mod rows;
 
+pub use building::tree;
 pub use dg_decl::{Bound, Class, CompTree, Exposed};
 pub use fault::TreeFault;
-pub use tree::tree;

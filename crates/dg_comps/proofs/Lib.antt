@@ -1,0 +1,4 @@
+pub mod SetLemmas
+pub mod ParentLemmas
+pub mod StatementLemmas
+pub mod RowLemmas
