@@ -2,3 +2,5 @@ pub mod SetLemmas
 pub mod ParentLemmas
 pub mod StatementLemmas
 pub mod RowLemmas
+pub mod ModuleLemmas
+pub mod TableLemmas

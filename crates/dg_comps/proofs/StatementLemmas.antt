@@ -1,7 +1,7 @@
 -- Where the statements of a document stand.
-use Rattle.std.proofs.Common.{◌≡◌, ◌⊎◌, inl, inr, ℕ, zero, suc, ◌+◌, ◌-◌, ◌<◌, ◌≤◌, Bool, true, false, cond, nat_lt, nat_eq, List, [], ◌∷◌, length, map, Option, Some, None, option_map, option_and_then, slice_get, filter, position, refl, sym, ap, subst, ◌∙◌, arith}
+use Rattle.std.proofs.Common.{◌≡◌, ◌⊎◌, inl, inr, ℕ, zero, suc, ◌+◌, ◌-◌, ◌<◌, ◌≤◌, Bool, true, false, cond, nat_lt, nat_eq, List, [], ◌∷◌, length, get_or, map, Option, Some, None, option_map, option_and_then, slice_get, filter, position, refl, sym, ap, subst, ◌∙◌, arith}
 use Rattle.std.specs.List.{list_any, position_or_len}
-use Rattle.std.proofs.lemmas.Option.{none-some, same_Some}
+use Rattle.std.proofs.lemmas.Option.{none-some, same_Some, slice_get-get_or, slice_get_within}
 use Rattle.dg_decl.specs.declared.document.Doc.{Doc}
 use Rattle.dg_decl.specs.declared.item.Item.{Item}
 use Rattle.dg_decl.specs.Document.{Statement, statements, statements_from, open_behind}
@@ -100,3 +100,13 @@ header_item_at doc c index e = from (header_of doc c) refl e
         → item_at doc index ≡ option_map (λ h. h.item) o
     from None is e = absurd (none-some index (sym e))
     from (Some h) is e = ap (item_at doc) (same_Some index h.index e) ∙ (header_stands doc c h is).item
+
+-- what is read from the statements stands at its index
+pub read_stands : (doc : Doc) (ss : List Statement) (place : ℕ) (s : Statement)
+    → ss ≡ statements doc → place < length ss → s ≡ get_or ss place s → Stands doc s
+read_stands doc ss place s same lt at =
+    each_at (Stands doc) (statements doc) place s (all_stand doc)
+    (ap (λ xs. slice_get xs place) (sym same) ∙ slice_get-get_or ss place s lt ∙ ap Some (sym at))
+
+pub stands_within : (doc : Doc) (s : Statement) → Stands doc s → s.index < length doc.items
+stands_within doc s stands = slice_get_within doc.items s.index s.item stands.item

@@ -1,4 +1,6 @@
 pub mod ClassSets
+pub mod ClassTables
+pub mod Entries
 pub mod Faults
 pub mod Rows
 pub mod Tables

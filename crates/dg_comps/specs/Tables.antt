@@ -1,5 +1,5 @@
 -- What the tables know that are made before the stage is judged.
-use Rattle.std.specs.Prelude.{◌≡◌, ◌<◌, ℕ, Bool, nat_eq, List, map, length, slice_index, slice_index_or, Option, None, false}
+use Rattle.std.specs.Prelude.{◌≡◌, ◌<◌, ℕ, Bool, nat_eq, List, map, length, slice_index, slice_index_or, Option, None, false, [], ◌∷◌, if◌then◌else◌}
 use Rattle.std.specs.List.{list_any, range_with_len}
 use Rattle.dg_decl.specs.declared.document.Doc.{Doc}
 use Rattle.dg_decl.specs.Components.{class_count, parent_of, walk, ancestors, is_own_ancestor, is_replaced, included, is_reached}
@@ -42,6 +42,10 @@ KnowsCyclic doc cyclic =
 pub record KnowsReplaced (doc : Doc) (marks : List Bool) : Type 0 where
   pub len : length marks ≡ length doc.items
   pub each : (m : ℕ) → slice_index_or marks m false ≡ is_replaced doc m
+
+-- a module, unless it is replaced
+abbrev pub kept_module : Doc → ℕ → List ℕ
+kept_module doc m = if is_replaced doc m then [] else m ∷ []
 
 -- a graph whose nodes are the items, with an edge for each module that an item includes
 pub record IsIncludes (doc : Doc) (graph : Graph) : Type 0 where

@@ -3,11 +3,14 @@
 
 mod building;
 mod class_set;
+mod class_table;
+mod entries;
 mod fault;
 mod headers;
 mod modules;
 mod parents;
 mod rows;
+mod scopes;
 
 pub use building::tree;
 pub use dg_decl::{Bound, Class, CompTree, Exposed};

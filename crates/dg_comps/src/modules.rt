@@ -1,6 +1,6 @@
 //! Which modules are replaced, and which are installed in which class.
 
-ghost use Rattle.std.specs.Prelude.{◌≡◌, ◌<◌, ◌≤◌, ◌++◌, ◌||◌, ◌&&◌, not, false, [], ◌∷◌, ℕ, List, nat_eq, filter, if◌then◌else◌, All, IfOk, OnOk, length, vec_len, slice_index, slice_index_or};
+ghost use Rattle.std.specs.Prelude.{◌≡◌, ◌<◌, ◌≤◌, ◌++◌, ◌||◌, ◌&&◌, not, false, [], ◌∷◌, ℕ, List, nat_eq, filter, if◌then◌else◌, Some, None, option_map, unwrap_or, All, IfOk, OnOk, length, vec_len, slice_index, slice_index_or};
 ghost use Rattle.std.specs.List.{list_any};
 ghost use Rattle.dg_num.specs.Graph.{IsSound, node_count, row_at, successors};
 ghost use Rattle.dg_num.specs.Walks.{IsReached, TellsExactly};
@@ -10,13 +10,14 @@ ghost use Rattle.dg_decl.specs.Bounds.{IsBounded};
 ghost use Rattle.dg_decl.specs.Components as components;
 ghost use Rattle.dg_decl.specs.Names as spec_names;
 ghost use Rattle.dg_comps.specs.ClassSets.{has, IsSetOf};
-ghost use Rattle.dg_comps.specs.Rows.{indices, is_annotated, AreRows};
-ghost use Rattle.dg_comps.specs.Tables.{KnowsAncestors, KnowsReplaced, KnowsReached, IsReachedSet, IsIncludes};
+ghost use Rattle.dg_comps.specs.Rows.{indices, is_annotated, is_installed_at, AreRows};
+ghost use Rattle.dg_comps.specs.Tables.{kept_module, KnowsAncestors, KnowsReplaced, KnowsReached, IsReachedSet, IsIncludes};
 
 use crate::class_set::{holds, meet, with};
-use crate::headers::{header_item, includes_in, item_at, modules_in, replaces_in};
+use crate::headers::{header_item, includes_in, is_module, item_at, modules_in, replaces_in};
+use crate::rows::{empty_rows, push_to};
 use dg_decl::Item;
-use dg_names::Names;
+use dg_names::{Names, Statement};
 use dg_num::Graph;
 use dg_types::{Name, NoMemory};
 use std::alloc::Global;
@@ -70,6 +71,21 @@ fn is_replaced(marks: &[bool], index: u32) -> bool
     }
 }
 
+/// Adds a module, unless it is replaced.
+fn push_unless_replaced(
+    replaced: &[bool],
+    index: u32,
+    modules: &mut Vec<u32>,
+) -> Result<(), NoMemory>
+    ensures exact { OnOk result ((doc : Doc) → KnowsReplaced doc replaced.now
+        → modules.new.items ≡ modules.old.items ++ kept_module doc index) }
+{
+    if !is_replaced(replaced, index) {
+        modules.push(index)?;
+    }
+    Ok(())
+}
+
 /// Adds the module of a name, unless it is replaced.
 fn push_module(
     names: &Names<'_>,
@@ -81,12 +97,10 @@ fn push_module(
     ensures exact { OnOk result (modules.new.items ≡ modules.old.items
         ++ components.modules_named names.now (name.now ∷ [])) }
 {
-    if let Some(module) = names.module_named(name.as_slice()) {
-        if !is_replaced(replaced, module) {
-            modules.push(module)?;
-        }
+    match names.module_named(name.as_slice()) {
+        Some(index) => push_unless_replaced(replaced, index, modules),
+        None => Ok(()),
     }
-    Ok(())
 }
 
 /// Adds the modules of some names that aren't replaced.
@@ -106,6 +120,17 @@ fn push_modules(
     Ok(())
 }
 
+/// The names that an item includes.
+fn included_names<'a>(names: &Names<'a>, index: u32) -> &'a [Name]
+    ensures exact { result.now ≡ unwrap_or (option_map components.includes_in
+        (spec_names.item_at names.now index)) [] }
+{
+    match item_at(names, index) {
+        Some(item) => includes_in(item),
+        None => &[],
+    }
+}
+
 /// The modules that an item includes, without those that are replaced.
 #[tactic(auto, unfolding(dg_decl::specs::Components::included))]
 fn included(
@@ -118,9 +143,7 @@ fn included(
     ensures exact { IfOk result (λ modules. modules.items ≡ components.included names.now index) }
 {
     let mut modules = Vec::new(alloc);
-    if let Some(item) = item_at(names, index) {
-        push_modules(names, replaced, includes_in(item), &mut modules)?;
-    }
+    push_modules(names, replaced, included_names(names, index), &mut modules)?;
     Ok(modules)
 }
 
@@ -134,11 +157,20 @@ fn push_unreplaced(
         ≡ modules.old.items ++ filter (λ m. not (components.is_replaced doc m)) list.now) }
 {
     for &index in list {
-        if !is_replaced(replaced, index) {
-            modules.push(index)?;
-        }
+        push_unless_replaced(replaced, index, modules)?;
     }
     Ok(())
+}
+
+/// The names of the modules that the header of a class names.
+fn header_modules<'a>(names: &Names<'a>, class: u32) -> &'a [Name]
+    ensures exact { result.now ≡ unwrap_or (option_map components.modules_in
+        (components.header_item names.now class)) [] }
+{
+    match header_item(names, class) {
+        Some(item) => modules_in(item),
+        None => &[],
+    }
 }
 
 /// The modules with which the walks of `includes` of a class begin.
@@ -156,9 +188,7 @@ fn seeds(
     ensures exact { IfOk result (λ modules. modules.items ≡ components.seeds names.now class) }
 {
     let mut modules = Vec::new(alloc);
-    if let Some(item) = header_item(names, class) {
-        push_modules(names, replaced, modules_in(item), &mut modules)?;
-    }
+    push_modules(names, replaced, header_modules(names, class), &mut modules)?;
     push_unreplaced(replaced, annotated, &mut modules)?;
     Ok(modules)
 }
@@ -169,10 +199,19 @@ fn includes(alloc: Global, names: &Names<'_>, replaced: &[bool]) -> Result<Graph
     ensures exact { IfOk result (λ graph. IsIncludes names.now graph) }
 {
     let mut next = Vec::new(alloc);
-    for module in 0..names.statements().len() as u32 {
-        next.push(included(alloc, names, replaced, module)?)?;
+    for index in 0..names.statements().len() as u32 {
+        next.push(included(alloc, names, replaced, index)?)?;
     }
     Ok(Graph { next })
+}
+
+/// The set with one class more, where the mark says so.
+fn with_marked(set: u128, mark: bool, class: u32) -> u128
+    requires class { class < 128 }
+    ensures exact { (other : ℕ) → has result other
+        ≡ (has set other || (nat_eq other class && mark)) }
+{
+    if mark { with(set, class) } else { set }
 }
 
 /// Adds a class to the set of each item that is marked.
@@ -185,9 +224,7 @@ fn add_class(sets: &mut Vec<u128>, marks: &[bool], class: u32)
         || (nat_eq other class && slice_index_or marks.now m false)) }
 {
     for (index, mark) in marks.iter().enumerate() {
-        if *mark {
-            sets[index] = with(sets[index], class);
-        }
+        sets[index] = with_marked(sets[index], *mark, class);
     }
 }
 
@@ -227,14 +264,19 @@ pub(crate) fn reached_sets(
     Ok(sets)
 }
 
-/// Whether a module is installed in a class, by the classes that reach it and the class's
-/// ancestors.
-fn is_installed(reached: u128, above: u128, class: u32) -> bool
+/// The class itself, where a module is installed in it, by the classes that reach the module and
+/// the ancestors of the class.
+fn if_installed(reached: u128, above: u128, class: u32) -> Option<u32>
     requires class { class < 128 }
     ensures exact { (classes : List ℕ) → IsSetOf (λ c. list_any (nat_eq c) classes) above
-        → result ≡ (has reached class && not (list_any (has reached) classes)) }
+        → result ≡ (if has reached class && not (list_any (has reached) classes) then Some class
+        else None) }
 {
-    holds(reached, class) && !meet(reached, above)
+    if holds(reached, class) && !meet(reached, above) {
+        Some(class)
+    } else {
+        None
+    }
 }
 
 /// Adds an index to the row of each class in which the module of it is installed.
@@ -248,14 +290,55 @@ fn push_installed(
     requires rows { vec_len rows.old ≡ length above.now }
     ensures len { vec_len rows.new ≡ vec_len rows.old }
     ensures exact { OnOk result ((doc : Doc) (class : ℕ) → KnowsAncestors doc above.now
-        → class < vec_len rows.old → IsReachedSet doc index reached
+        → IsReachedSet doc index reached → class < vec_len rows.old
         → row_at rows.new.items class ≡ row_at rows.old.items class
         ++ (if components.is_installed doc class index then index ∷ [] else [])) }
 {
     for (class, ancestors) in above.iter().enumerate() {
-        if is_installed(reached, *ancestors, class as u32) {
-            rows[class].push(index)?;
-        }
+        push_to(rows, if_installed(reached, *ancestors, class as u32), index)?;
     }
     Ok(())
+}
+
+/// Adds the index of a statement to the row of each class in which it is an installed module.
+fn push_installed_at(
+    rows: &mut Vec<Vec<u32>>,
+    reached: &[u128],
+    above: &[u128],
+    statement: &Statement<'_>,
+) -> Result<(), NoMemory>
+    requires few { length above.now ≤ 128 }
+    requires rows { vec_len rows.old ≡ length above.now }
+    requires index { statement.now.index < length reached.now }
+    ensures len { vec_len rows.new ≡ vec_len rows.old }
+    ensures exact { OnOk result ((doc : Doc) (class : ℕ) → KnowsAncestors doc above.now
+        → KnowsReached doc reached.now → class < vec_len rows.old
+        → row_at rows.new.items class ≡ row_at rows.old.items class
+        ++ (if is_installed_at doc class statement.now then statement.now.index ∷ [] else [])) }
+{
+    if is_module(statement.item) {
+        push_installed(rows, reached[statement.index as usize], above, statement.index)
+    } else {
+        Ok(())
+    }
+}
+
+/// For each class the indices of the modules that are installed in it.
+pub(crate) fn installed(
+    alloc: Global,
+    names: &Names<'_>,
+    reached: &[u128],
+    above: &[u128],
+) -> Result<Vec<Vec<u32>>, NoMemory>
+    requires bounded { IsBounded names.now }
+    requires reached { KnowsReached names.now reached.now }
+    requires above { KnowsAncestors names.now above.now }
+    ensures exact { IfOk result (λ rows. AreRows (is_installed_at names.now) names.now
+        (components.class_count names.now) rows.items) }
+{
+    let mut rows = empty_rows(alloc, names.class_count())?;
+    for statement in names.statements() {
+        push_installed_at(&mut rows, reached, above, statement)?;
+    }
+    Ok(rows)
 }
