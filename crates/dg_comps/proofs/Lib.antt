@@ -4,3 +4,5 @@ pub mod StatementLemmas
 pub mod RowLemmas
 pub mod ModuleLemmas
 pub mod TableLemmas
+pub mod EntryLemmas
+pub mod BlockLemmas

@@ -27,7 +27,8 @@ use Rattle.dg_comps.specs.Rows.{indices, is_annotated, is_installed_at, AreRows}
 use Rattle.dg_comps.specs.Tables.{is_ancestor, KnowsAncestors, KnowsReplaced, kept_module, IsIncludes, IsReachedSet, KnowsReached}
 use Rattle.dg_comps.proofs.SetLemmas.{none_has}
 use Rattle.dg_comps.proofs.ParentLemmas.{any_same, ancestors_below}
-use Rattle.dg_comps.proofs.StatementLemmas.{Each, Stands, all_stand}
+use Rattle.dg_comps.proofs.StatementLemmas.{Each, all_stand}
+use Rattle.dg_comps.specs.Stands.{Stands}
 
 -- ---- tests of lists, element by element
 

@@ -6,6 +6,7 @@ use Rattle.dg_decl.specs.declared.document.Doc.{Doc}
 use Rattle.dg_decl.specs.declared.item.Item.{Item}
 use Rattle.dg_decl.specs.Document.{Statement, statements, statements_from, open_behind}
 use Rattle.dg_decl.specs.Names.{item_at}
+use Rattle.dg_comps.specs.Stands.{Stands}
 use Rattle.dg_decl.specs.Components.{hilt_count, is_component, component_headers, header_of, header_item}
 
 -- what holds of each statement
@@ -42,11 +43,6 @@ behind_here : {A : Type 0} (all : List A) (low : ℕ) (x : A) (rest : List A)
     → Behind all low (x ∷ rest) → slice_get all low ≡ Some x
 behind_here all low x rest behind =
     (let here : low ≡ low + 0 = omega arith in ap (slice_get all) here ∙ behind 0)
-
--- a statement stands at its index
-pub record Stands (doc : Doc) (s : Statement) : Type 0 where
-  pub at : slice_get (statements doc) s.index ≡ Some s
-  pub item : item_at doc s.index ≡ Some s.item
 
 stand_from : (doc : Doc) (index : ℕ) (block : Option ℕ) (items : List Item)
     → Behind doc.items index items

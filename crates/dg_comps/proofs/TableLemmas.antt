@@ -1,5 +1,6 @@
 -- Tables of names with sets of component classes.
 use Rattle.std.proofs.Common.{◌≡◌, ◌⊎◌, inl, inr, ℕ, zero, suc, ◌+◌, ◌<◌, ◌≤◌, Bool, true, false, cond, ◌&&◌, ◌||◌, nat_lt, nat_eq, List, [], ◌∷◌, ◌++◌, length, get_or, drop, map, Option, Some, None, option_map, option_and_then, option_to_list, unwrap_or, bytes_eq, refl, sym, ap, ◌∙◌, drop-cons, arith}
+use Rattle.std.specs.Prelude.{Result, Ok, Err, OnOk}
 use Rattle.std.specs.List.{list_any}
 use Rattle.std.specs.Map.{lookup}
 use Rattle.std.specs.Bool.{one_answer}
@@ -13,7 +14,7 @@ use Rattle.dg_decl.specs.Document.{Statement, statements, statements_from, open_
 use Rattle.dg_decl.specs.Names.{is_called}
 use Rattle.dg_decl.specs.Components.{class_count, hilt_row, header_item, scopes_in, scopes_of, carries, class_around, class_of_block, number_of_header, class_named, entry_point_class, component_headers, hilt_count, is_entry, is_entry_of, is_number}
 use Rattle.dg_decl.specs.Stages.Components.{entry_name, has_earlier_entry}
-use Rattle.dg_decl.proofs.NumberBounds.{position_below, below_or, below_and_then, same_value}
+use Rattle.dg_decl.proofs.NumberBounds.{position_below, below_or, below_and_then, same_value, none_is_not_some}
 use Rattle.dg_decl.proofs.ComponentLemmas.{class_below}
 use Rattle.dg_comps.specs.ClassSets.{has}
 use Rattle.dg_comps.specs.ClassTables.{ClassTable, set_of, has_at, KnowsCarriers, KnowsEntries}
@@ -69,6 +70,16 @@ pub one_scope : (scope name : Bytes) (b : Bool)
     → (bytes_eq name scope && b) ≡ (is_among scope (name ∷ []) && b)
 one_scope scope name b =
     ap (λ t. t && b) (bytes_turned name scope ∙ or_false (bytes_eq scope name))
+
+pub one_hilt : (scope name : Bytes) (o : Option Bytes) (b : Bool) → Some name ≡ o
+    → (bytes_eq name scope && b) ≡ (is_among scope (option_to_list o) && b)
+one_hilt scope name o b e =
+    one_scope scope name b ∙ ap (λ p. is_among scope (option_to_list p) && b) e
+
+-- what follows from what holds after an `Ok`
+pub on_ok : {V E P Q : Type 0} (r : Result V E) → OnOk r P → (P → Q) → OnOk r Q
+on_ok (Ok x) p f = f p
+on_ok (Err e) p f = tt
 
 -- the table, once a class was added for the scopes before this place
 abbrev pub ScopesSoFar : ClassTable → ℕ → List Bytes → ℕ → ClassTable → Type 0
@@ -202,23 +213,19 @@ carriers_end doc count table so all scope c lt =
 
 -- ---- the class around a statement
 
-header_number_below : (doc : Doc) (h : Statement) (n : ℕ) → number_of_header doc h ≡ Some n
+after_hilt : (place count : ℕ) (o : Option ℕ) (n : ℕ) → ((k : ℕ) → o ≡ Some k → k < count)
+    → option_map (λ k. place + k) o ≡ Some n → n < place + count
+after_hilt place count None n small e = absurd (none_is_not_some n e)
+after_hilt place count (Some k) n small e =
+    (let within : k < count = small k refl in let same : place + k ≡ n = same_value (place + k) n e
+    in omega arith)
+
+pub header_number_below : (doc : Doc) (h : Statement) (n : ℕ) → number_of_header doc h ≡ Some n
     → n < class_count doc
 unfolding class_count
 header_number_below doc h n e =
-    from (position_below _ (component_headers doc)) e
-  where
-    from : {o : Option ℕ} → ((k : ℕ) → o ≡ Some k → k < length (component_headers doc))
-        → option_map (λ k. hilt_count + k) o ≡ Some n
-        → n < hilt_count + length (component_headers doc)
-    from {None} small given = absurd (false≢true (ap is_given given))
-    from {Some k} small given =
-        (let within : k < length (component_headers doc) = small k refl in
-        let same : hilt_count + k ≡ n = same_value (hilt_count + k) n given in omega arith)
-
-    is_given : Option ℕ → Bool
-    is_given None = false
-    is_given (Some k) = true
+    after_hilt hilt_count (length (component_headers doc)) _ n
+    (λ k found. position_below _ (component_headers doc) k found) e
 
 pub around_below : (doc : Doc) (s : Statement) (n : ℕ) → class_around doc s ≡ Some n
     → n < class_count doc

@@ -4,6 +4,7 @@
 mod building;
 mod class_set;
 mod class_table;
+mod classes;
 mod entries;
 mod fault;
 mod headers;
@@ -11,6 +12,8 @@ mod modules;
 mod parents;
 mod rows;
 mod scopes;
+mod stage;
+mod stage_tables;
 
 pub use building::tree;
 pub use dg_decl::{Bound, Class, CompTree, Exposed};

@@ -36,7 +36,7 @@ fn parent_name<'a>(names: &Names<'a>, class: u32) -> Option<&'a Name>
 
 /// The class whose subcomponent a class is.
 #[tactic(auto, unfolding(dg_decl::specs::Components::parent_of))]
-fn parent_of(names: &Names<'_>, class: u32) -> Option<u32>
+pub(crate) fn parent_of(names: &Names<'_>, class: u32) -> Option<u32>
     ensures exact { result ≡ components.parent_of names.now class }
 {
     match hilt_parent(class) {

@@ -71,7 +71,8 @@ fn add_class(
         && nat_eq c class))) }
 {
     add_hilt_scope(alloc, class, table)?;
-    add_scopes(written_scopes(names, class), class, table)
+    add_scopes(written_scopes(names, class), class, table)?;
+    Ok(())
 }
 
 /// For each scope the set of the classes that carry it.

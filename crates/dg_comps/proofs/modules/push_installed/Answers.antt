@@ -9,6 +9,6 @@ loop-class-preserved c =
       each = λ doc knows is. installed_step doc c.args.index c.loop-class.class c.args.reached
           c.args.above.now c.if_installed.result rows c.loop-class.rows.items
           c.push_to.new.rows.items knows is (c.loop-class.invariant.each doc knows is)
-          c.loop-class.invariant.len c.requires.rows (omega arith) c.if_installed.ensures.exact
-          c.in_ok-push_to.ensures.exact;
+          (omega arith) (omega (arith, c.requires.rows)) (omega arith)
+          c.if_installed.ensures.exact (λ other lt. c.in_ok-push_to.ensures.exact other (omega arith));
     }

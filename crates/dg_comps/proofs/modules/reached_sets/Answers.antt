@@ -38,4 +38,5 @@ loop-class-preserved c =
     c.deref-in-loop-class.result.now c.in_ok-marks.marks.items c.in_ok-graph.ensures.exact
     (c.deref-in-loop-class.ensures.value ∙ c.in_ok-seeds.ensures.exact) c.in_ok-marks.ensures.exact
     m lt)
-    c.add_class.ensures.len c.add_class.ensures.exact
+    (omega (arith, c.add_class.ensures.len))
+    (λ m other lt. c.add_class.ensures.exact m other (omega arith))

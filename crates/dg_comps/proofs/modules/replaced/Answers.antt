@@ -21,8 +21,9 @@ loop-statement-preserved c =
     marks_step (replaces_it doc) (λ m. false) (length doc.items) (statements doc) place s
     c.loop-statement.marks.items c.mark_replaced.new.marks.items c.loop-statement.invariant
     (omega (arith, ap length same, c.loop-statement-test.true))
-    (ap (λ xs. get_or xs place s) (sym same) ∙ sym c.statement-item.is) c.mark_replaced.ensures.len
-    (λ m small. c.mark_replaced.ensures.exact m small
+    (ap (λ xs. get_or xs place s) (sym same) ∙ sym c.statement-item.is)
+    (omega (arith, c.mark_replaced.ensures.len))
+    (λ m small. c.mark_replaced.ensures.exact m (omega arith)
     ∙ ap (λ x. slice_index_or c.loop-statement.marks.items m false
     || list_any (λ n. is_number m (module_named doc n)) (replaces_in x)) item)
 
