@@ -9,7 +9,7 @@ use Rattle.dg_decl.specs.declared.component.Bound.{Bound}
 use Rattle.dg_decl.specs.declared.item.Item.{Item}
 use Rattle.dg_decl.specs.Document.{Statement, statements, stands_in, members}
 use Rattle.dg_decl.specs.Names.{item_at}
-use Rattle.dg_decl.specs.Components.{is_number, hilt_count, component_headers, number_of_header, header_of, own_members, bound_in, class_named, dependency_in, deps_of}
+use Rattle.dg_decl.specs.Components.{is_number, hilt_count, component_headers, number_of_header, header_of, own_members, hilt_row, default_bound, bound_of, bound_in, class_named, dependency_in, deps_of}
 use Rattle.dg_decl.proofs.HeaderLemmas.{headers_have_their_numbers}
 use Rattle.dg_comps.specs.Members.{bound_at, dep_at}
 use Rattle.dg_comps.specs.Rows.{member_class, is_member, indices}
@@ -90,8 +90,8 @@ by_index doc c m h is =
         let found = header_of_number doc c t e in
         let index : t.index ≡ m = index_at doc m t at in
         let same : found.0.index ≡ h.index = ap (λ (x : Statement). x.index)
-        (same_Some found.0 h (sym found.2.0 ∙ is)) in
-        let theirs : found.0.index ≡ t.index = found.2.1 in
+        (same_Some found.0 h (sym found.1 ∙ is)) in
+        let theirs : found.0.index ≡ t.index = found.2 in
         ne (omega arith)
 
 no_header : (doc : Doc) (c m : ℕ) → header_of doc c ≡ None
@@ -101,7 +101,7 @@ no_header doc c m none = not_number c _ (λ e. other (slice_get (statements doc)
     other : (o : Option Statement) → option_and_then (number_of_header doc) o ≡ Some c → ⊥
     other None e = none-some c e
     other (Some t) e = (let found = header_of_number doc c t e in
-        none-some found.0 (sym none ∙ found.2.0))
+        none-some found.0 (sym none ∙ found.1))
 
 members_by : (doc : Doc) (c : ℕ) (o : Option Statement) → header_of doc c ≡ o
     → filter (is_member doc c) (statements doc)
@@ -180,3 +180,13 @@ deps_of_members doc c =
     (dependency_in x)) (item_at doc i)) (indices (is_member doc) (statements doc) c)
     (λ i. one_step doc (item_at doc i))
     ∙ of_members doc (λ x. option_and_then (class_named doc) (dependency_in x)) c
+
+pub bounds_are : (doc : Doc) (c : ℕ) (list : List ℕ) (own new : List Bound)
+    → list ≡ indices (is_member doc) (statements doc) c
+    → own ≡ option_to_list (option_and_then default_bound (hilt_row c))
+    → new ≡ own ++ filter_map (bound_at doc) list → new ≡ bound_of doc c
+unfolding bound_of
+bounds_are doc c list own new same first all =
+    all ∙ ap (λ (bs : List Bound). bs ++ filter_map (bound_at doc) list) first
+    ∙ ap (λ (bs : List Bound). option_to_list (option_and_then default_bound (hilt_row c)) ++ bs)
+    (ap (filter_map (bound_at doc)) same ∙ bounds_of_members doc c)

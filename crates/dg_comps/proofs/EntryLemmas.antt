@@ -150,7 +150,7 @@ entries_step doc place s r seen noted repeated more so lt at told adds pushed =
           ∙ ap (map (is_repeated doc)) (sym next);
     }
 
-taken_all : {A : Type 0} (xs : List A) (n : ℕ) → length xs ≤ n → take n xs ≡ xs
+pub taken_all : {A : Type 0} (xs : List A) (n : ℕ) → length xs ≤ n → take n xs ≡ xs
 taken_all [] zero le = refl
 taken_all [] (suc n) le = refl
 taken_all (x ∷ xs) zero le = absurd (omega arith)

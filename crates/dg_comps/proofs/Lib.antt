@@ -6,3 +6,4 @@ pub mod ModuleLemmas
 pub mod TableLemmas
 pub mod EntryLemmas
 pub mod BlockLemmas
+pub mod BrokenLemmas

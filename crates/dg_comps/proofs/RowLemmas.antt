@@ -108,3 +108,13 @@ pub past_differs : (count class other : ℕ) (o : Option ℕ) → o ≡ Some cla
     → other < count → is_number other o ≡ false
 past_differs count class other o is past lt =
     ap (is_number other) is ∙ ne_eqb class other (λ e. absurd (omega arith))
+
+-- the row of a class, as it was read
+pub row_read : (belongs : Belongs) (doc : Doc) (count class : ℕ) (rows : List (Vec ℕ Global))
+    (row : Vec ℕ Global) (list : List ℕ) → AreRows belongs doc count rows → class < count
+    → row ≡ get_or rows class row → list ≡ row.items
+    → list ≡ indices belongs (statements doc) class
+row_read belongs doc count class rows row list are lt at same =
+    let len = are.len in
+    let within : class < length rows = omega arith in
+    same ∙ sym (row_at_read rows class row within at) ∙ are.each class lt

@@ -1,5 +1,5 @@
 -- Tables of names with sets of component classes.
-use Rattle.std.proofs.Common.{◌≡◌, ◌⊎◌, inl, inr, ℕ, zero, suc, ◌+◌, ◌<◌, ◌≤◌, Bool, true, false, cond, ◌&&◌, ◌||◌, nat_lt, nat_eq, List, [], ◌∷◌, ◌++◌, length, get_or, drop, map, Option, Some, None, option_map, option_and_then, option_to_list, unwrap_or, bytes_eq, refl, sym, ap, ◌∙◌, drop-cons, arith}
+use Rattle.std.proofs.Common.{◌≡◌, ◌⊎◌, inl, inr, ℕ, zero, suc, ◌+◌, ◌<◌, ◌≤◌, Bool, true, false, cond, ◌&&◌, ◌||◌, nat_lt, nat_eq, List, [], ◌∷◌, ◌++◌, length, get_or, drop, map, Option, Some, None, option_map, option_and_then, option_to_list, unwrap_or, slice_get, IfSome, bytes_eq, refl, sym, ap, ◌∙◌, drop-cons, arith}
 use Rattle.std.specs.Prelude.{Result, Ok, Err, OnOk}
 use Rattle.std.specs.List.{list_any}
 use Rattle.std.specs.Map.{lookup}
@@ -236,3 +236,16 @@ around_below doc s n e =
     (λ j found. header_number_below doc h j found)
     (λ j found. below_and_then (class_count doc) (class_named doc) (entry_point_class h.item)
     (λ name named i one. class_below doc name i one) j found) k given) n e
+
+some_below : (bound : ℕ) (r : Option ℕ) → ((n : ℕ) → r ≡ Some n → n < bound)
+    → IfSome r (λ n. n < bound)
+some_below bound None small = tt
+some_below bound (Some n) small = small n refl
+
+pub headed_below : (doc : Doc) (index : ℕ) (r : Option ℕ)
+    → r ≡ option_and_then (number_of_header doc) (slice_get (statements doc) index)
+    → IfSome r (λ n. n < class_count doc)
+headed_below doc index r e =
+    some_below (class_count doc) r (λ n is. below_and_then (class_count doc) (number_of_header doc)
+    (slice_get (statements doc) index) (λ h at k given. header_number_below doc h k given) n
+    (sym e ∙ is))

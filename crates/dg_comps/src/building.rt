@@ -26,10 +26,20 @@ pub fn tree(alloc: Global, d: &Doc) -> Result<CompTree, TreeFault>
     ensures cause { IfErr result (IsFaultOf d.now) }
 {
     let names = Names::of(alloc, d)?;
-    let tables = stage_tables_of(alloc, &names)?;
-    let broken = components_stage(alloc, &names, &tables)?;
+    tree_of(alloc, &names)
+}
+
+/// The component classes of a document, by the names that it declares.
+pub(crate) fn tree_of(alloc: Global, names: &Names<'_>) -> Result<CompTree, TreeFault>
+    requires bounded { IsBounded names.now }
+    ensures exact { IfOk result (λ t. t.classes ≡ component_classes names.now) }
+    ensures accepted { OnOk result (components_stage names.now ≡ []) }
+    ensures cause { IfErr result (IsFaultOf names.now) }
+{
+    let tables = stage_tables_of(alloc, names)?;
+    let broken = components_stage(alloc, names, &tables)?;
     if broken.is_empty() {
-        let classes = component_classes(alloc, &names, &tables.above)?;
+        let classes = component_classes(alloc, names, &tables.above)?;
         Ok(CompTree { classes })
     } else {
         Err(TreeFault::Broken(broken))

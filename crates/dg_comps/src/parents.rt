@@ -107,7 +107,7 @@ fn with_own(cyclic: u128, set: u128, class: u32) -> u128
 
 /// The set of the classes that are their own ancestors, where each class has the set of its
 /// ancestors.
-pub(crate) fn cyclic_classes(sets: &[u128]) -> u128
+fn cyclic_classes(sets: &[u128]) -> u128
     requires few { length sets.now ≤ 128 }
     ensures exact { (class : ℕ) → class < length sets.now
         → has result class ≡ has (slice_index sets.now class) class }
@@ -117,6 +117,16 @@ pub(crate) fn cyclic_classes(sets: &[u128]) -> u128
         cyclic = with_own(cyclic, *set, class as u32);
     }
     cyclic
+}
+
+/// The set of the classes of a document that are their own ancestors.
+pub(crate) fn cyclic_of(names: &Names<'_>, sets: &[u128]) -> u128
+    requires few { components.class_count names.now ≤ 128 }
+    requires sets { KnowsAncestors names.now sets.now }
+    ensures exact { KnowsCyclic names.now result }
+{
+    let _doc = names.doc();
+    cyclic_classes(sets)
 }
 
 /// Whether a walk of parents from a class comes to no class again.

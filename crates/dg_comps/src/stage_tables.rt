@@ -6,7 +6,7 @@ ghost use Rattle.dg_comps.specs.Known.{KnowsAll};
 
 use crate::class_table::ClassTable;
 use crate::entries::repeated_entries;
-use crate::parents::{ancestor_sets, cyclic_classes};
+use crate::parents::{ancestor_sets, cyclic_of};
 use crate::scopes::carriers;
 use dg_names::Names;
 use dg_types::NoMemory;
@@ -31,11 +31,13 @@ pub(crate) fn stage_tables_of(alloc: Global, names: &Names<'_>) -> Result<StageT
     ensures exact { IfOk result (λ tables. KnowsAll names.now tables) }
 {
     let above = ancestor_sets(alloc, names)?;
-    let cyclic = cyclic_classes(&above);
+    let cyclic = cyclic_of(names, &above);
+    let carriers = carriers(alloc, names)?;
+    let repeated = repeated_entries(alloc, names)?;
     Ok(StageTables {
         above,
         cyclic,
-        carriers: carriers(alloc, names)?,
-        repeated: repeated_entries(alloc, names)?,
+        carriers,
+        repeated,
     })
 }

@@ -1,7 +1,12 @@
 use Rattle.std.proofs.Common.{◌≡◌, ◌∙◌, length, get_or, ap, sym, arith}
 use Rattle.dg_decl.specs.Document.{statements}
-use Rattle.dg_comps.proofs.EntryLemmas.{entries_step, entries_end}
+use Rattle.dg_comps.proofs.EntryLemmas.{entries_begin, entries_step, entries_end}
 use Rattle.dg_comps.proofs.entries.repeated_entries.Goals as goal
+
+pub loop-statement-init : goal.loop-statement-init
+loop-statement-init c =
+    entries_begin c.args.names.now c.new-seen.result c.new-repeated.result.items
+    c.new-seen.ensures.exact c.new-repeated.ensures.items
 
 pub loop-statement-preserved : goal.loop-statement-preserved
 loop-statement-preserved c =

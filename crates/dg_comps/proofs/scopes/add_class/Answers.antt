@@ -4,8 +4,8 @@ use Rattle.dg_comps.specs.ClassTables.{has_at}
 use Rattle.dg_comps.proofs.TableLemmas.{both_scopes}
 use Rattle.dg_comps.proofs.scopes.add_class.Goals as goal
 
-pub returns-in_ok-add_scopes : goal.returns-in_ok-add_scopes
-returns-in_ok-add_scopes c = record {
+pub returns : goal.returns
+returns c = record {
   exact = both_scopes c.args.names.now c.args.class c.args.table.now c.add_hilt_scope.new.table
       c.add_scopes.new.table c.in_ok-add_hilt_scope.ensures.exact
       (λ scope k. c.in_ok-add_scopes.ensures.exact scope k
