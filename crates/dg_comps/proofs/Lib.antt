@@ -7,3 +7,4 @@ pub mod TableLemmas
 pub mod EntryLemmas
 pub mod BlockLemmas
 pub mod BrokenLemmas
+pub mod SmallLemmas

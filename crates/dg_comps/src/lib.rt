@@ -18,3 +18,6 @@ mod stage_tables;
 pub use building::tree;
 pub use dg_decl::{Bound, Class, CompTree, Exposed};
 pub use fault::TreeFault;
+
+#[cfg(test)]
+mod tests;
