@@ -117,7 +117,8 @@ members_by doc c (Some h) is =
     same_filter (is_member doc c) (stands_in h.index) (statements doc) (λ s. at s)
     ∙ sym (append-nil (members doc h.index))
   where
-    by_block : (s : Statement) (b : Option ℕ) → s.block ≡ b → is_member doc c s ≡ stands_in h.index s
+    by_block : (s : Statement) (b : Option ℕ) → s.block ≡ b → is_member doc c s
+        ≡ stands_in h.index s
     by_block s None e = ap (λ o. is_number c (option_and_then (number_of_header doc)
         (option_and_then (slice_get (statements doc)) o))) e ∙ sym (not_there s e)
       where
@@ -147,7 +148,8 @@ by_indices {B = B} doc f (s ∷ ss) each =
     ∙ ap (λ (bs : List B). cons_option (f s.item) bs) (by_indices doc f ss each.1)
 
 of_members : {B : Type 0} (doc : Doc) (f : Item → Option B) (c : ℕ)
-    → filter_map (λ i. option_and_then f (item_at doc i)) (indices (is_member doc) (statements doc) c)
+    → filter_map (λ i. option_and_then f (item_at doc i)) (indices (is_member doc)
+    (statements doc) c)
     ≡ filter_map (λ s. f s.item) (own_members doc c)
 of_members doc f c =
     by_indices doc f (filter (is_member doc c) (statements doc))

@@ -31,7 +31,8 @@ index_from doc low block (x ∷ xs) (suc k) s e =
 pub index_at : (doc : Doc) (k : ℕ) (s : Statement) → slice_get (statements doc) k ≡ Some s
     → s.index ≡ k
 unfolding statements
-index_at doc k s e = (let at : s.index ≡ 0 + k = index_from doc 0 None doc.items k s e in omega arith)
+index_at doc k s e = (let at : s.index ≡ 0 + k = index_from doc 0 None doc.items k s e
+    in omega arith)
 
 -- the statement of an item
 abbrev head_of : Doc → ℕ → Option ℕ → Item → Statement
@@ -60,10 +61,12 @@ any_before q doc low (suc k) high block [] e = refl
 any_before q doc low (suc k) high block (x ∷ xs) e =
     ap (λ b. (b && q (head_of doc low block x)) || list_any (λ t. nat_lt t.index high && q t)
     (statements_from doc (suc low) (open_behind block low x) xs)) (lt-ltb low high (omega arith))
-    ∙ ap (λ b. q (head_of doc low block x) || b) (any_before q doc (suc low) k high (open_behind block low x) xs (omega arith))
+    ∙ ap (λ b. q (head_of doc low block x)
+    || b) (any_before q doc (suc low) k high (open_behind block low x) xs (omega arith))
 
 earlier : (q : Statement → Bool) (doc : Doc) (k : ℕ)
-    → list_any (λ t. nat_lt t.index k && q t) (statements doc) ≡ list_any q (take k (statements doc))
+    → list_any (λ t. nat_lt t.index k && q t) (statements doc)
+    ≡ list_any q (take k (statements doc))
 unfolding statements
 earlier q doc k = any_before q doc 0 k k None doc.items (omega arith)
 

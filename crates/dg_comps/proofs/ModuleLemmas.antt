@@ -58,7 +58,8 @@ dropped_all (x ∷ xs) (suc i) le = dropped_all xs i (omega arith)
 pub record MarksSoFar {A : Type 0} (test : ℕ → A → Bool) (before : ℕ → Bool) (count : ℕ)
     (xs : List A) (place : ℕ) (marks : List Bool) : Type 0 where
   pub len : length marks ≡ count
-  pub each : (m : ℕ) → m < count → (slice_index_or marks m false || list_any (test m) (drop place xs))
+  pub each : (m : ℕ) → m < count → (slice_index_or marks m false
+      || list_any (test m) (drop place xs))
       ≡ (before m || list_any (test m) xs)
 
 pub marks_begin : {A : Type 0} (test : ℕ → A → Bool) (xs : List A) (marks : List Bool)
@@ -77,7 +78,8 @@ marks_step test before count xs place x marks more so lt at same adds =
       each = λ m small.
           let within : m < length marks = omega arith in
           ap (λ b. b || list_any (test m) (drop (place + 1) xs)) (adds m within)
-          ∙ or_moved (slice_index_or marks m false) (test m x) (list_any (test m) (drop (place + 1) xs))
+          ∙ or_moved (slice_index_or marks m false) (test m x) (list_any (test m) (drop
+          (place + 1) xs))
           ∙ ap (λ b. slice_index_or marks m false || b) (sym (any_drop (test m) xs place x lt at))
           ∙ so.each m small;
     }
@@ -88,7 +90,8 @@ pub marks_end : {A : Type 0} (test : ℕ → A → Bool) (before : ℕ → Bool)
     → slice_index_or marks m false ≡ (before m || list_any (test m) xs)
 marks_end test before count xs place marks so all m lt =
     or_false (slice_index_or marks m false)
-    ∙ ap (λ ys. slice_index_or marks m false || list_any (test m) ys) (sym (dropped_all xs place all))
+    ∙ ap (λ ys. slice_index_or marks m false
+    || list_any (test m) ys) (sym (dropped_all xs place all))
     ∙ so.each m lt
 
 -- one mark more
@@ -157,7 +160,8 @@ number_is : (m : ℕ) (o : Option ℕ) → is_number m o ≡ true → o ≡ Some
 number_is m None e = absurd (false≢true e)
 number_is m (Some n) e = ap Some (eqb-true n m e)
 
-any_none : {A : Type 0} (p : A → Bool) (xs : List A) → ((x : A) → p x ≡ false) → list_any p xs ≡ false
+any_none : {A : Type 0} (p : A → Bool) (xs : List A) → ((x : A) → p x ≡ false) → list_any p xs
+    ≡ false
 any_none p [] none = refl
 any_none p (x ∷ xs) none = ap (λ b. b || list_any p xs) (none x) ∙ any_none p xs none
 
@@ -199,7 +203,8 @@ one_named doc n m e =
     ap (λ o. filter (λ m. not (is_replaced doc m)) (cons_option o [])) (sym e)
     ∙ kept_by (is_replaced doc m) m
 
-pub none_named : (doc : Doc) (n : Bytes) → None ≡ module_named doc n → modules_named doc (n ∷ []) ≡ []
+pub none_named : (doc : Doc) (n : Bytes) → None ≡ module_named doc n → modules_named doc (n ∷ [])
+    ≡ []
 none_named doc n e = ap (λ o. filter (λ m. not (is_replaced doc m)) (cons_option o [])) (sym e)
 
 -- ---- adding what elements give, one by one
@@ -208,8 +213,10 @@ none_named doc n e = ap (λ o. filter (λ m. not (is_replaced doc m)) (cons_opti
 abbrev pub AddedSoFar : {A B : Type 0} → (List A → List B) → List B → List A → ℕ → List B → Type 0
 AddedSoFar gives before xs place added = added ++ gives (drop place xs) ≡ before ++ gives xs
 
-pub added_step : {A B : Type 0} (gives : List A → List B) (before : List B) (xs : List A) (place : ℕ)
-    (x : A) (added more : List B) → ((y : A) (ys : List A) → gives (y ∷ ys) ≡ gives (y ∷ []) ++ gives ys)
+pub added_step : {A B : Type 0} (gives : List A
+    → List B) (before : List B) (xs : List A) (place : ℕ)
+    (x : A) (added more : List B) → ((y : A) (ys : List A) → gives (y ∷ ys)
+    ≡ gives (y ∷ []) ++ gives ys)
     → AddedSoFar gives before xs place added → place < length xs → get_or xs place x ≡ x
     → more ≡ added ++ gives (x ∷ []) → AddedSoFar gives before xs (place + 1) more
 added_step {A} {B} gives before xs place x added more parts so lt at adds =
@@ -241,7 +248,8 @@ kept_cons doc m ms = from (not (is_replaced doc m))
     from true = refl
     from false = refl
 
-pub kept_one : (doc : Doc) (m : ℕ) → filter (λ m. not (is_replaced doc m)) (m ∷ []) ≡ kept_module doc m
+pub kept_one : (doc : Doc) (m : ℕ) → filter (λ m. not (is_replaced doc m)) (m ∷ [])
+    ≡ kept_module doc m
 kept_one doc m = kept_by (is_replaced doc m) m
 
 -- ---- the table of replaced modules
@@ -260,7 +268,8 @@ pub statements_length : (doc : Doc) → length (statements doc) ≡ length doc.i
 unfolding statements
 statements_length doc = length_from doc 0 None doc.items
 
-replaced_by : (doc : Doc) (m : ℕ) → list_any (replaces_it doc m) (statements doc) ≡ is_replaced doc m
+replaced_by : (doc : Doc) (m : ℕ) → list_any (replaces_it doc m) (statements doc)
+    ≡ is_replaced doc m
 unfolding is_replaced
 replaced_by doc m = refl
 
@@ -271,7 +280,8 @@ knows_replaced doc place marks so all =
     let len = so.len in record {
       len = len;
       each = λ m. elim (cases_lt m (length doc.items)) [
-        | inl lt ↦ marks_end (replaces_it doc) (λ m. false) (length doc.items) (statements doc) place
+        | inl lt ↦ marks_end (replaces_it doc) (λ m. false) (length doc.items)
+            (statements doc) place
             marks so all m lt ∙ replaced_by doc m
         | inr past ↦ (let beyond : length marks ≤ m = omega arith in
             get_or_past marks m false beyond ∙ sym (past_is_not_replaced doc m past))
@@ -288,7 +298,8 @@ pub replaced_begins : (doc : Doc) (marks : List Bool) (n : ℕ) → marks ≡ re
     → MarksSoFar (replaces_it doc) (λ m. false) (length doc.items) (statements doc) 0 marks
 replaced_begins doc marks n is len = record {
   len = ap length is ∙ length-replicate n false ∙ len ∙ statements_length doc;
-  each = λ m lt. ap (λ bs. slice_index_or bs m false || list_any (replaces_it doc m) (statements doc)) is
+  each = λ m lt. ap (λ bs. slice_index_or bs m false
+      || list_any (replaces_it doc m) (statements doc)) is
       ∙ ap (λ b. b || list_any (replaces_it doc m) (statements doc)) (none_of_replicate n m);
 }
 
@@ -303,8 +314,11 @@ pub row_of_more : (rows : List (Vec ℕ Global)) (row : Vec ℕ Global) (m : ℕ
     → row_at (rows ++ row ∷ []) m ≡ row_at rows m
 unfolding row_at
 row_of_more rows row m lt =
-    let small : m < length (map (λ (r : Vec ℕ Global). r.items) rows) = omega (arith, length-map rows
-    (λ (r : Vec ℕ Global). r.items)) in
+    let small : m < length (map (λ (r : Vec ℕ Global). r.items) rows) = omega (
+      arith,
+      length-map rows
+          (λ (r : Vec ℕ Global). r.items),
+    ) in
     ap (λ xs. get_or xs m []) (map_push (λ (r : Vec ℕ Global). r.items) rows row)
     ∙ get_or-append (map (λ (r : Vec ℕ Global). r.items) rows) (row.items ∷ []) [] m small
 
@@ -329,7 +343,8 @@ includes_step doc count row rows more so adds is =
       each = λ m lt. elim (cases_lt m count) [
         | inl below ↦ (let within : m < length rows = omega arith in
             ap (λ rs. row_at rs m) adds ∙ row_of_more rows row m within ∙ so.each m below)
-        | inr high ↦ (let here : m ≡ length rows = omega arith in let same : count ≡ m = omega arith in
+        | inr high ↦ (let here : m ≡ length rows = omega arith in let same : count
+            ≡ m = omega arith in
             ap (λ rs. row_at rs m) adds ∙ ap (row_at (rows ++ row ∷ [])) here ∙ row_of_last rows row
             ∙ is ∙ ap (included doc) same)
       ];
@@ -341,7 +356,8 @@ past_includes_nothing doc m past =
     ap (λ (o : Option Item). modules_named doc (unwrap_or (option_map includes_in o) []))
     (slice_get_past doc.items m past)
 
-pub includes_end : (doc : Doc) (count : ℕ) (graph : Graph) → IncludesSoFar doc count graph.next.items
+pub includes_end : (doc : Doc) (count : ℕ) (graph : Graph)
+    → IncludesSoFar doc count graph.next.items
     → count ≡ length doc.items → IsIncludes doc graph
 includes_end doc count graph so all =
     let len = so.len in record {
@@ -367,12 +383,14 @@ unfolding included
 included_below doc m n c = below_of_each (length doc.items) _ n (kept_below doc _) c
 
 indices_below : (bound : ℕ) (p : Statement → Bool) (ss : List Statement)
-    → Each (λ s. s.index < bound) ss → EachBelow bound (map (λ (s : Statement). s.index) (filter p ss))
+    → Each (λ s. s.index < bound) ss
+    → EachBelow bound (map (λ (s : Statement). s.index) (filter p ss))
 indices_below bound p [] each = tt
 indices_below bound p (s ∷ ss) each = from (p s) (indices_below bound p ss each.1)
   where
     from : (b : Bool) → EachBelow bound (map (λ (s : Statement). s.index) (filter p ss))
-        → EachBelow bound (map (λ (s : Statement). s.index) (cond b (s ∷ filter p ss) (filter p ss)))
+        → EachBelow bound (map (λ (s : Statement). s.index) (cond b (s ∷ filter p ss)
+        (filter p ss)))
     from true rest = (each.0, rest)
     from false rest = rest
 
@@ -403,7 +421,8 @@ seeds_are_nodes doc graph class list is same =
     subst P (sym same) (subst Q (sym is.nodes) (all_from_each (length doc.items) (seeds doc class)
     (seeds_below doc class)))
 
-pub graph_is_sound : (doc : Doc) (graph : Graph) → IsBounded doc → IsIncludes doc graph → IsSound graph
+pub graph_is_sound : (doc : Doc) (graph : Graph) → IsBounded doc → IsIncludes doc graph
+    → IsSound graph
 graph_is_sound doc graph bounded is =
     let nodes = is.nodes in let items = bounded.items in record {
       in_range = λ a b edge. (let P : List ℕ → Type 0 = λ xs. Contains xs b in
@@ -424,8 +443,12 @@ walk_is doc graph is roots (suc n) a b r w =
 
 one_longer : (graph : Graph) (n a b c : ℕ) → num.Walk (successors graph) n a b
     → Contains (successors graph b) c → num.Walk (successors graph) (suc n) a c
-one_longer graph zero a b c w e = (c, (let P : ℕ → Type 0 = λ m. Contains (successors graph m) c in
-    subst P (sym w) e), refl)
+one_longer graph zero a b c w e = (
+  c,
+  (let P : ℕ → Type 0 = λ m. Contains (successors graph m) c in
+      subst P (sym w) e),
+  refl,
+)
 one_longer graph (suc n) a b c w e = (w.0, w.1, one_longer graph n w.0 b c w.2 e)
 
 is_walk : (doc : Doc) (graph : Graph) → IsIncludes doc graph → (roots : List ℕ) (m : ℕ)
@@ -433,9 +456,15 @@ is_walk : (doc : Doc) (graph : Graph) → IsIncludes doc graph → (roots : List
 is_walk doc graph is roots m (walks.root n c) = (n, c, (0, refl))
 is_walk doc graph is roots m (walks.step k n r c) =
     let before = is_walk doc graph is roots k r in
-    let P : List ℕ → Type 0 = λ xs. Contains xs n in
-    (before.0, before.1, (suc before.2.0, one_longer graph before.2.0 before.0 k n before.2.1
-    (subst P (sym (is.edges k)) c)))
+    let P : List ℕ → Type 0 = λ xs. Contains xs n in (
+      before.0,
+      before.1,
+      (
+        suc before.2.0,
+        one_longer graph before.2.0 before.0 k n before.2.1
+            (subst P (sym (is.edges k)) c),
+      ),
+    )
 
 same_truth : (a b : Bool) → (a ≡ true → b ≡ true) → (b ≡ true → a ≡ true) → a ≡ b
 same_truth true b there back = sym (there refl)
@@ -565,22 +594,26 @@ reached_step doc count marks sets more so told same adds =
           | inl same ↦ (let equal : nat_eq class count ≡ true = eq-eqb class count same in
               let less : nat_lt class count ≡ false = le-ltb class count (omega arith) in
               let more : nat_lt class (count + 1) ≡ true = lt-ltb class (count + 1) (omega arith) in
-              ap (λ b. (b && is_reached doc class m) || (nat_eq class count && is_reached doc count m))
+              ap (λ b. (b && is_reached doc class m)
+              || (nat_eq class count && is_reached doc count m))
               less ∙ ap (λ b. b && is_reached doc count m) equal
               ∙ ap (λ n. is_reached doc n m) (sym same)
               ∙ ap (λ b. b && is_reached doc class m) (sym more))
           | inr ne ↦ elim (cases_lt class count) [
             | inl lt ↦ (let apart : nat_eq class count ≡ false = ne_eqb class count ne in
                 let less : nat_lt class count ≡ true = lt-ltb class count lt in
-                let more : nat_lt class (count + 1) ≡ true = lt-ltb class (count + 1) (omega arith) in
-                ap (λ b. (nat_lt class count && is_reached doc class m) || (b && is_reached doc count m))
+                let more : nat_lt class (count + 1)
+                ≡ true = lt-ltb class (count + 1) (omega arith) in
+                ap (λ b. (nat_lt class count && is_reached doc class m)
+                || (b && is_reached doc count m))
                 apart ∙ sym (or_false (nat_lt class count && is_reached doc class m))
                 ∙ ap (λ b. b && is_reached doc class m) (less ∙ sym more))
             | inr le ↦ (let apart : nat_eq class count ≡ false = ne_eqb class count ne in
                 let less : nat_lt class count ≡ false = le-ltb class count le in
                 let high : count + 1 ≤ class = omega (arith, ne) in
                 let more : nat_lt class (count + 1) ≡ false = le-ltb class (count + 1) high in
-                ap (λ b. (nat_lt class count && is_reached doc class m) || (b && is_reached doc count m))
+                ap (λ b. (nat_lt class count && is_reached doc class m)
+                || (b && is_reached doc count m))
                 apart ∙ sym (or_false (nat_lt class count && is_reached doc class m))
                 ∙ ap (λ b. b && is_reached doc class m) (less ∙ sym more))
           ]
@@ -634,7 +667,8 @@ pub installed_step : (doc : Doc) (index place reached : ℕ) (above : List ℕ) 
     → ((other : ℕ) → other < length rows → row_at more other
     ≡ row_at rows other ++ (if is_number other o then index ∷ [] else []))
     → InstalledSoFar doc index (place + 1) before more
-installed_step doc index place reached above o before rows more knows is so same long lt tells adds =
+installed_step doc index place reached above o before rows more knows is so same long lt tells adds
+    =
     let len = knows.len in
     let small : place < class_count doc = omega arith in
     let over = knows.each place small in
@@ -676,17 +710,21 @@ installed_step doc index place reached above o before rows more knows is so same
               let equal : nat_eq place class ≡ true = eq-eqb place class (sym e) in
               let now : is_number class o ≡ is_installed doc class index = number
               ∙ ap (λ b. is_installed doc place index && b) equal
-              ∙ and_true (is_installed doc place index) ∙ ap (λ n. is_installed doc n index) (sym e) in
+              ∙ and_true (is_installed doc place index)
+              ∙ ap (λ n. is_installed doc n index) (sym e) in
               ap (λ b. (if b && is_installed doc class index then index ∷ [] else [])
               ++ (if is_number class o then index ∷ [] else [])) less
               ∙ ap (λ b. if b then index ∷ [] else []) now
               ∙ ap (λ b. if b && is_installed doc class index then index ∷ [] else []) (sym more))
-          | inr ne ↦ (let apart : nat_eq place class ≡ false = ne_eqb place class (λ e. ne (sym e)) in
+          | inr ne ↦ (let apart : nat_eq place class
+              ≡ false = ne_eqb place class (λ e. ne (sym e)) in
               let now : is_number class o ≡ false = number
               ∙ ap (λ b. is_installed doc place index && b) apart
               ∙ and_false (is_installed doc place index) in
-              let same_test : nat_lt class place ≡ nat_lt class (place + 1) = below_or_past class ne in
-              ap (λ b. (if nat_lt class place && is_installed doc class index then index ∷ [] else [])
+              let same_test : nat_lt class place
+              ≡ nat_lt class (place + 1) = below_or_past class ne in
+              ap (λ b. (if nat_lt class place && is_installed doc class index then index ∷ [] else
+              [])
               ++ (if b then index ∷ [] else [])) now
               ∙ append-nil _
               ∙ ap (λ b. if b && is_installed doc class index then index ∷ [] else []) same_test)
@@ -707,5 +745,6 @@ pub installed_ends : (doc : Doc) (index place : ℕ) (before rows : List (Vec �
     ++ (if is_installed doc class index then index ∷ [] else [])
 installed_ends doc index place before rows so all class lt =
     so.each class lt
-    ∙ ap (λ b. row_at before class ++ (if b && is_installed doc class index then index ∷ [] else []))
+    ∙ ap (λ b. row_at before class ++
+    (if b && is_installed doc class index then index ∷ [] else []))
     (lt-ltb class place (omega arith))

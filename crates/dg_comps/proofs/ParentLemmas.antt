@@ -18,7 +18,8 @@ use Rattle.dg_comps.proofs.SetLemmas.{none_has}
 -- ---- the loop over a table of parents
 
 -- what the loop knows: the classes of the set, and those of the walk that is left, are all
-pub record Walked (parents : List (Option ℕ)) (class counter set : ℕ) (next : Option ℕ) : Type 0 where
+pub record Walked (parents : List (Option ℕ)) (class counter set : ℕ)
+    (next : Option ℕ) : Type 0 where
   pub rest : ℕ
   pub steps : counter + rest ≡ length parents
   pub within : IfSome next (λ p. p < length parents)
@@ -68,7 +69,8 @@ walk_steps parents class counter set more p (Some q) w is lt all adds =
               (parent_at parents p))) (adds c)
               ∙ moved (nat_eq c p) (has set c) (list_any (nat_eq c) (walk (parent_at parents) r
               (parent_at parents p)))
-              ∙ ap (λ n. has set c || list_any (nat_eq c) (walk (parent_at parents) (suc r) (Some n)))
+              ∙ ap (λ n. has set c || list_any (nat_eq c) (walk (parent_at parents) (suc r)
+              (Some n)))
               same ∙ covers c;
         }
 
@@ -76,7 +78,8 @@ or_nothing : (b : Bool) → (b || false) ≡ b
 or_nothing true = refl
 or_nothing false = refl
 
-nothing_left : (next : ℕ → Option ℕ) (rest c : ℕ) → list_any (nat_eq c) (walk next rest None) ≡ false
+nothing_left : (next : ℕ → Option ℕ) (rest c : ℕ) → list_any (nat_eq c) (walk next rest None)
+    ≡ false
 nothing_left next zero c = refl
 nothing_left next (suc r) c = refl
 
@@ -139,7 +142,8 @@ unfolding ancestors
 table_walks doc class other lt =
     ap (λ k. list_any (nat_eq other) (walk (parent_at (parents_by_class doc)) k
     (parent_at (parents_by_class doc) class))) (table_length doc)
-    ∙ ap (λ o. list_any (nat_eq other) (walk (parent_at (parents_by_class doc)) (class_count doc) o))
+    ∙ ap (λ o. list_any (nat_eq other) (walk (parent_at (parents_by_class doc))
+    (class_count doc) o))
     (table_at doc class lt)
     ∙ ap (list_any (nat_eq other)) (same_walk (parent_at (parents_by_class doc)) (parent_of doc)
     (class_count doc) (λ c small. table_at doc c small) (λ c p e. parent_below doc c p e)
@@ -281,7 +285,8 @@ pub own_steps : (sets : List ℕ) (class cyclic set more : ℕ) → KnowsOwn set
     → KnowsOwn sets (class + 1) more
 own_steps sets class cyclic set more knows at adds = record {
   each = λ k lt. elim (cases_lt k class) [
-    | inl below ↦ (let apart : nat_eq k class ≡ false = ne_eqb k class (λ e. absurd (omega arith)) in
+    | inl below ↦ (let apart : nat_eq k class
+        ≡ false = ne_eqb k class (λ e. absurd (omega arith)) in
         apart_from (has more k) (nat_eq k class) (has cyclic k) (has set class) apart (adds k)
         ∙ knows.each k below)
     | inr high ↦ (let same : k ≡ class = omega arith in
@@ -289,7 +294,8 @@ own_steps sets class cyclic set more knows at adds = record {
         (knows.others k high) (adds k)
         ∙ ap (λ n. has n class) at ∙ ap (λ n. has (slice_index sets n) n) (sym same))
   ];
-  others = λ k le. (let apart : nat_eq k class ≡ false = ne_eqb k class (λ e. absurd (omega arith)) in
+  others = λ k le. (let apart : nat_eq k class
+      ≡ false = ne_eqb k class (λ e. absurd (omega arith)) in
       apart_from (has more k) (nat_eq k class) (has cyclic k) (has set class) apart (adds k)
       ∙ knows.others k (omega arith));
 }

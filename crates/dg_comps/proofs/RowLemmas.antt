@@ -6,8 +6,8 @@ use Rattle.dg_num.specs.Graph.{row_at}
 use Rattle.dg_num.proofs.Rows.{row_at_read, row_at-set_same, row_at-set_other}
 use Rattle.dg_decl.specs.declared.document.Doc.{Doc}
 use Rattle.dg_decl.specs.Document.{Statement, statements}
-use Rattle.dg_decl.specs.Components.{is_number}
-use Rattle.dg_comps.specs.Rows.{Belongs, indices, AreRows}
+use Rattle.dg_decl.specs.Components.{is_number, is_entry_of, installed, entries_of}
+use Rattle.dg_comps.specs.Rows.{Belongs, indices, AreRows, is_installed_at}
 
 -- what each row has so far, and what is left for it, is all
 pub record RowsSoFar (belongs : Belongs) (ss : List Statement) (count place : ℕ)
@@ -118,3 +118,15 @@ row_read belongs doc count class rows row list are lt at same =
     let len = are.len in
     let within : class < length rows = omega arith in
     same ∙ sym (row_at_read rows class row within at) ∙ are.each class lt
+
+-- ---- rows that are fields of a class
+
+pub rows_installed : (doc : Doc) (class : ℕ)
+    → indices (is_installed_at doc) (statements doc) class ≡ installed doc class
+unfolding installed
+rows_installed doc class = refl
+
+pub rows_entries : (doc : Doc) (class : ℕ)
+    → indices (is_entry_of doc) (statements doc) class ≡ entries_of doc class
+unfolding entries_of
+rows_entries doc class = refl

@@ -24,7 +24,8 @@ pub none_has : (class : ℕ) → has 0 class ≡ false
 unfolding has
 none_has class = ap (λ bit. nat_eq bit 1) (bit_at-zero class)
 
-same_bit : (set more class : ℕ) → bit_at more class ≡ bit_at set class → has more class ≡ has set class
+same_bit : (set more class : ℕ) → bit_at more class ≡ bit_at set class → has more class
+    ≡ has set class
 unfolding has
 same_bit set more class e = ap (λ bit. nat_eq bit 1) e
 
@@ -72,7 +73,8 @@ share first second classes is fits some =
     let within : bit_and first second < 2 ^ 128 = omega arith in
     let lowest = bit_at-trailing_zeros w128 (bit_and first second) some within in
     let class = trailing_zeros w128 (bit_and first second) in
-    let bit : min (bit_at first class) (bit_at second class) ≡ 1 = sym (bit_at_and first second class)
+    let bit : min (bit_at first class) (bit_at second class)
+    ≡ 1 = sym (bit_at_and first second class)
     ∙ lowest.1 in
     let small : bit_at first class < 2 = bit_at-lt first class in
     let small_too : bit_at second class < 2 = bit_at-lt second class in

@@ -88,14 +88,16 @@ unfolding header_of
 header_stands doc c h e = header_stands_at doc c h (nat_lt c hilt_count) e
 
 -- the item of a header by its index
-pub header_item_at : (doc : Doc) (c index : ℕ) → Some index ≡ option_map (λ h. h.index) (header_of doc c)
+pub header_item_at : (doc : Doc) (c index : ℕ) → Some index
+    ≡ option_map (λ h. h.index) (header_of doc c)
     → item_at doc index ≡ header_item doc c
 header_item_at doc c index e = from (header_of doc c) refl e
   where
     from : (o : Option Statement) → header_of doc c ≡ o → Some index ≡ option_map (λ h. h.index) o
         → item_at doc index ≡ option_map (λ h. h.item) o
     from None is e = absurd (none-some index (sym e))
-    from (Some h) is e = ap (item_at doc) (same_Some index h.index e) ∙ (header_stands doc c h is).item
+    from (Some h) is e = ap (item_at doc) (same_Some index h.index e)
+        ∙ (header_stands doc c h is).item
 
 -- what is read from the statements stands at its index
 pub read_stands : (doc : Doc) (ss : List Statement) (place : ℕ) (s : Statement)

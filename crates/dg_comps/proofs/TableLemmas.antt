@@ -172,7 +172,8 @@ pub carriers_step : (doc : Doc) (class : ℕ) (table more : ClassTable)
     ≡ (has_at table scope c || (carries doc scope class && nat_eq c class)))
     → CarriersSoFar doc (class + 1) more
 carriers_step doc class table more so adds scope c =
-    adds scope c ∙ ap (λ b. b || (carries doc scope class && nat_eq c class)) (so scope c) ∙ by_place
+    adds scope c ∙ ap (λ b. b || (carries doc scope class && nat_eq c class)) (so scope c)
+    ∙ by_place
   where
     and_turned : (a b : Bool) → (a && b) ≡ (b && a)
     and_turned true true = refl
@@ -180,14 +181,16 @@ carriers_step doc class table more so adds scope c =
     and_turned false true = refl
     and_turned false false = refl
 
-    by_place : ((nat_lt c class && carries doc scope c) || (carries doc scope class && nat_eq c class))
+    by_place : ((nat_lt c class && carries doc scope c)
+        || (carries doc scope class && nat_eq c class))
         ≡ (nat_lt c (class + 1) && carries doc scope c)
     by_place =
         elim (cases_eq c class) [
           | inl e ↦ (let less : nat_lt c class ≡ false = le-ltb c class (omega arith) in
               let more : nat_lt c (class + 1) ≡ true = lt-ltb c (class + 1) (omega arith) in
               let equal : nat_eq c class ≡ true = eq-eqb c class e in
-              ap (λ b. (b && carries doc scope c) || (carries doc scope class && nat_eq c class)) less
+              ap (λ b. (b && carries doc scope c)
+              || (carries doc scope class && nat_eq c class)) less
               ∙ and_turned (carries doc scope class) (nat_eq c class)
               ∙ ap (λ b. b && carries doc scope class) equal
               ∙ ap (λ n. carries doc scope n) (sym e)

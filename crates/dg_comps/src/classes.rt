@@ -257,7 +257,6 @@ fn installed_rows(
 }
 
 /// A class, with the rows of the tables that are its own.
-#[tactic(auto, unfolding(dg_decl::specs::Components::installed, dg_decl::specs::Components::entries_of))]
 fn class_of_number(
     alloc: Global,
     names: &Names<'_>,
@@ -268,10 +267,8 @@ fn class_of_number(
 ) -> Result<Class, NoMemory>
     requires class { class < components.class_count names.now }
     requires members { members.now ≡ indices (is_member names.now) (statements names.now) class }
-    requires modules { modules.now
-        ≡ indices (is_installed_at names.now) (statements names.now) class }
-    requires entries { entries.now
-        ≡ indices (components.is_entry_of names.now) (statements names.now) class }
+    requires modules { modules.now ≡ components.installed names.now class }
+    requires entries { entries.now ≡ components.entries_of names.now class }
     ensures exact { IfOk result (λ found. found ≡ components.class_of_number names.now class) }
 {
     Ok(Class {
@@ -302,8 +299,14 @@ pub(crate) fn component_classes(
     let mut classes = Items::new(alloc);
     for class in 0..names.class_count() {
         let index = class as usize;
-        let found =
-            class_of_number(alloc, names, class, &members[index], &modules[index], &entries[index])?;
+        let found = class_of_number(
+            alloc,
+            names,
+            class,
+            &members[index],
+            &modules[index],
+            &entries[index],
+        )?;
         classes.push(found)?;
     }
     Ok(classes)

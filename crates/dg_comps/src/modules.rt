@@ -148,11 +148,7 @@ fn included(
 }
 
 /// Adds the modules of a list that aren't replaced.
-fn push_unreplaced(
-    replaced: &[bool],
-    list: &[u32],
-    modules: &mut Vec<u32>,
-) -> Result<(), NoMemory>
+fn push_unreplaced(replaced: &[bool], list: &[u32], modules: &mut Vec<u32>) -> Result<(), NoMemory>
     ensures exact { OnOk result ((doc : Doc) → KnowsReplaced doc replaced.now → modules.new.items
         ≡ modules.old.items ++ filter (λ m. not (components.is_replaced doc m)) list.now) }
 {
@@ -317,7 +313,12 @@ fn push_installed_at(
         ++ (if is_installed_at doc class statement.now then statement.now.index ∷ [] else [])) }
 {
     if is_module(statement.item) {
-        push_installed(rows, reached[statement.index as usize], above, statement.index)
+        push_installed(
+            rows,
+            reached[statement.index as usize],
+            above,
+            statement.index,
+        )
     } else {
         Ok(())
     }

@@ -52,9 +52,11 @@ pub(crate) fn parent_of(names: &Names<'_>, class: u32) -> Option<u32>
 fn parents(alloc: Global, names: &Names<'_>) -> Result<Vec<Option<u32>>, NoMemory>
     ensures exact { IfOk result (λ parents. parents.items ≡ parents_by_class names.now) }
 {
-    Ok((0..names.class_count())
-        .map(|class| parent_of(names, class))
-        .collect(alloc)?)
+    Ok(
+        (0..names.class_count())
+            .map(|class| parent_of(names, class))
+            .collect(alloc)?,
+    )
 }
 
 /// The classes to which a walk of parents leads from a class. A walk without end comes to no new

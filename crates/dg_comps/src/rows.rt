@@ -99,7 +99,8 @@ pub(crate) fn push_to(
     index: u32,
 ) -> Result<(), NoMemory>
     ensures len { vec_len rows.new ≡ vec_len rows.old }
-    ensures exact { OnOk result ((other : ℕ) → other < vec_len rows.old → row_at rows.new.items other
+    ensures exact { OnOk result ((other : ℕ) → other < vec_len rows.old
+        → row_at rows.new.items other
         ≡ row_at rows.old.items other
         ++ (if components.is_number other class then index ∷ [] else [])) }
 {
@@ -118,7 +119,11 @@ pub(crate) fn annotated(alloc: Global, names: &Names<'_>) -> Result<Vec<Vec<u32>
 {
     let mut rows = empty_rows(alloc, names.class_count())?;
     for statement in names.statements() {
-        push_to(&mut rows, annotated_class(names, statement), statement.index)?;
+        push_to(
+            &mut rows,
+            annotated_class(names, statement),
+            statement.index,
+        )?;
     }
     Ok(rows)
 }

@@ -155,11 +155,7 @@ fn push_all_carried(
 }
 
 /// The class of which a statement is the header, where its walk of parents meets no cycle.
-fn rooted_class(
-    names: &Names<'_>,
-    tables: &StageTables,
-    statement: &Statement<'_>,
-) -> Option<u32>
+fn rooted_class(names: &Names<'_>, tables: &StageTables, statement: &Statement<'_>) -> Option<u32>
     requires bounded { IsBounded names.now }
     requires tables { KnowsAll names.now tables.now }
     requires stands { Stands names.now statement.now }

@@ -234,7 +234,8 @@ const TABLE: &[(&str, &str)] = &[
     (
         "module name A;};component name App;};component name Act in App modules A;};\
          component name Bar in App modules A;}",
-        "App modules entries deps\nAct in 8 modules 0 entries deps\nBar in 8 modules 0 entries deps\n",
+        "App modules entries deps\nAct in 8 modules 0 entries deps\n\
+         Bar in 8 modules 0 entries deps\n",
     ),
     // replaced modules: one that a header names, one that an annotation installs, and one in the
     // middle of a walk
@@ -260,7 +261,8 @@ const TABLE: &[(&str, &str)] = &[
     // a scope of an ancestor, and one of a sibling
     (
         "component name App scopes S;};component name Act in App scopes U S;};\
-         component name Bar in App scopes U;};defineComponent name Mine in ViewComponent scopes Singleton;}",
+         component name Bar in App scopes U;};\
+         defineComponent name Mine in ViewComponent scopes Singleton;}",
         "AncestorScope line 3: S\nAncestorScope line 7: Singleton\n",
     ),
     // entries of one name, in the blocks of one class and of another
@@ -288,7 +290,12 @@ fn classes_and_rules(rt: HostRuntime) -> Result<(), Fail> {
 
 #[test]
 fn hilt_scopes_and_default_bindings(rt: HostRuntime) -> Result<(), Fail> {
-    let out = told(&rt, rt.alloc(), "entryPoint name E install ServiceComponent;entry name x;}", 0)?;
+    let out = told(
+        &rt,
+        rt.alloc(),
+        "entryPoint name E install ServiceComponent;entry name x;}",
+        0,
+    )?;
     let expected = "SingletonComponent @Singleton modules bound application entries deps
 ActivityRetainedComponent in 0 @ActivityRetainedScoped modules entries deps
 ServiceComponent in 0 @ServiceScoped modules bound service entries 1 deps

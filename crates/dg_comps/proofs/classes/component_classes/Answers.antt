@@ -4,7 +4,7 @@ use Rattle.std.proofs.lemmas.List.FromFn.{map-range_with_len_more}
 use Rattle.dg_decl.specs.declared.component.Class.{Class}
 use Rattle.dg_decl.specs.Components.{class_count, class_of_number, is_entry_of}
 use Rattle.dg_comps.specs.Rows.{is_member, is_installed_at}
-use Rattle.dg_comps.proofs.RowLemmas.{row_read}
+use Rattle.dg_comps.proofs.RowLemmas.{row_read, rows_installed, rows_entries}
 use Rattle.dg_comps.proofs.classes.component_classes.Goals as goal
 
 pub class_of_number-requires-clause-members : goal.class_of_number-requires-clause-members
@@ -23,6 +23,7 @@ class_of_number-requires-clause-modules c =
     c.loop-class.class c.in_ok-modules.modules.items c.index-in-loop-class.result.now
     c.deref-in-loop-class.result.now c.in_ok-modules.ensures.exact lt
     c.index-in-loop-class.ensures c.deref-in-loop-class.ensures.value
+    ∙ rows_installed c.args.names.now c.loop-class.class
 
 pub class_of_number-requires-clause-entries : goal.class_of_number-requires-clause-entries
 class_of_number-requires-clause-entries c =
@@ -32,12 +33,14 @@ class_of_number-requires-clause-entries c =
     c.loop-class.class c.in_ok-entries.entries.items c.index-in-loop-class-2.result.now
     c.deref-in-loop-class-2.result.now c.in_ok-entries.ensures.exact lt
     c.index-in-loop-class-2.ensures c.deref-in-loop-class-2.ensures.value
+    ∙ rows_entries c.args.names.now c.loop-class.class
 
 pub loop-class-preserved : goal.loop-class-preserved
 loop-class-preserved c =
     c.in_ok-push.ensures.ok
     ∙ ap (λ (cs : List Class). cs ++ c.in_ok-found.found ∷ []) c.loop-class.invariant
-    ∙ ap (λ (x : Class). map (class_of_number c.args.names.now) (range_with_len 0 c.loop-class.class)
+    ∙ ap (λ (x : Class). map (class_of_number c.args.names.now)
+    (range_with_len 0 c.loop-class.class)
     ++ x ∷ []) c.in_ok-found.ensures.exact
     ∙ sym (map-range_with_len_more (class_of_number c.args.names.now) 0 c.loop-class.class
     c.loop-class.class (omega arith))

@@ -24,6 +24,9 @@ pub returns : goal.returns
 returns c = record {
   exact = entries_end c.args.names.now c.loop-statement.statement-index c.loop-statement.seen
       c.loop-statement.repeated.items c.loop-statement.invariant
-      (omega (arith, ap length c.statements-statement-items.ensures.exact,
-      c.loop-statement-test.false));
+      (omega (
+        arith,
+        ap length c.statements-statement-items.ensures.exact,
+        c.loop-statement-test.false,
+      ));
 }

@@ -10,7 +10,8 @@ overflow_cast-index-end c =
 
 pub loop-index-preserved : goal.loop-index-preserved
 loop-index-preserved c =
-    includes_step c.args.names.now c.loop-index.index c.in_ok-included.field-0 c.loop-index.next.items
+    includes_step c.args.names.now c.loop-index.index c.in_ok-included.field-0
+    c.loop-index.next.items
     c.push.new.self.items c.loop-index.invariant c.in_ok-push.ensures.items
     c.in_ok-included.ensures.exact
 

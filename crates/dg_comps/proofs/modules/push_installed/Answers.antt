@@ -10,5 +10,6 @@ loop-class-preserved c =
           c.args.above.now c.if_installed.result rows c.loop-class.rows.items
           c.push_to.new.rows.items knows is (c.loop-class.invariant.each doc knows is)
           (omega arith) (omega (arith, c.requires.rows)) (omega arith)
-          c.if_installed.ensures.exact (λ other lt. c.in_ok-push_to.ensures.exact other (omega arith));
+          c.if_installed.ensures.exact (λ other lt. c.in_ok-push_to.ensures.exact other
+          (omega arith));
     }

@@ -21,7 +21,8 @@ seeds-requires-clause-annotated c =
 
 pub reached-requires-clause-graph : goal.reached-requires-clause-graph
 reached-requires-clause-graph c =
-    graph_is_sound c.args.names.now c.in_ok-graph.graph c.requires.bounded c.in_ok-graph.ensures.exact
+    graph_is_sound c.args.names.now c.in_ok-graph.graph c.requires.bounded
+    c.in_ok-graph.ensures.exact
 
 pub reached-requires-clause-seeds : goal.reached-requires-clause-seeds
 reached-requires-clause-seeds c =

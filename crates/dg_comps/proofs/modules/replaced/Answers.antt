@@ -31,6 +31,9 @@ pub returns : goal.returns
 returns c = record {
   exact = knows_replaced c.args.names.now c.loop-statement.statement-index
       c.loop-statement.marks.items c.loop-statement.invariant
-      (omega (arith, ap length c.statements-statement-items.ensures.exact,
-      c.loop-statement-test.false));
+      (omega (
+        arith,
+        ap length c.statements-statement-items.ensures.exact,
+        c.loop-statement-test.false,
+      ));
 }

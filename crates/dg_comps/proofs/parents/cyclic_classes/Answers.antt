@@ -8,5 +8,6 @@ loop-class-init c = own_begins c.args.sets.now
 pub loop-class-preserved : goal.loop-class-preserved
 loop-class-preserved c =
     own_steps c.args.sets.now c.loop-class.class c.loop-class.cyclic
-    (slice_index c.args.sets.now c.loop-class.class) c.with_own-cyclic.result c.loop-class.invariant refl
+    (slice_index c.args.sets.now c.loop-class.class) c.with_own-cyclic.result
+    c.loop-class.invariant refl
     c.with_own-cyclic.ensures.exact

@@ -5,7 +5,8 @@ use Rattle.dg_comps.proofs.parents.with_own.Goals as goal
 
 pub returns-then-holds : goal.returns-then-holds
 returns-then-holds c = record {
-  exact = λ o. own_then (has c.args.cyclic o) (nat_eq o c.args.class) (has c.args.set c.args.class) _
+  exact = λ o. own_then (has c.args.cyclic o) (nat_eq o c.args.class)
+      (has c.args.set c.args.class) _
       (sym c.holds.ensures.exact ∙ c.if-holds.true) (c.with.ensures.exact o);
 }
 

@@ -6,4 +6,5 @@ use Rattle.dg_comps.proofs.rows.members.Given as goal
 
 abbrev pub invariant-loop-statement : goal.invariant-loop-statement
 invariant-loop-statement l =
-    RowsSoFar (is_member l.names) (statements l.names) (class_count l.names) l.statement-index l.rows.items
+    RowsSoFar (is_member l.names) (statements l.names)
+    (class_count l.names) l.statement-index l.rows.items

@@ -17,6 +17,9 @@ unfolding components_stage
 returns c = record {
   exact = c.loop-index.invariant
       ∙ ap (flat_map (components_at c.args.names.now)) (taken_all (statements c.args.names.now)
-      c.loop-index.index (omega (arith, ap length c.statements-statement-items.ensures.exact,
-      c.loop-index-test.false)));
+      c.loop-index.index (omega (
+        arith,
+        ap length c.statements-statement-items.ensures.exact,
+        c.loop-index-test.false,
+      )));
 }
