@@ -1,3 +1,9 @@
+//! The stage of types.
+
+mod fields;
+mod given;
+mod shapes;
+
 ghost use Rattle.std.specs.Prelude.{◌≡◌, IfOk};
 ghost use Rattle.dg_decl.specs.Bounds.{IsBounded};
 ghost use Rattle.dg_decl.specs.Stages.Types.{types_stage};

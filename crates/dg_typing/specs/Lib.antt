@@ -1,0 +1,2 @@
+pub mod TypesGiven
+pub mod TypesFields
