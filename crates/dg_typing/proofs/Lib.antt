@@ -1,1 +1,3 @@
 pub mod TypeEquations
+pub mod TypeExpressions
+pub mod TypeArguments

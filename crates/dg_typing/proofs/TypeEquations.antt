@@ -48,6 +48,12 @@ same_shape-Map k t s =
 
 -- the outermost constructor of a type
 
+pub out_text : out-Shape shape.Text ≡ Shape-F.Text
+out_text = ap out-Shape (sym shape.rolls-Text) ∙ out-roll-Shape Shape-F.Text
+
+pub out_int : out-Shape shape.Int ≡ Shape-F.Int
+out_int = ap out-Shape (sym shape.rolls-Int) ∙ out-roll-Shape Shape-F.Int
+
 pub out_named : (n : List ℕ) → out-Shape (shape.Named n) ≡ Shape-F.Named n
 out_named n = ap out-Shape (sym (shape.rolls-Named n)) ∙ out-roll-Shape (Shape-F.Named n)
 

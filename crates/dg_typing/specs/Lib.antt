@@ -1,2 +1,3 @@
 pub mod TypesGiven
 pub mod TypesFields
+pub mod TypesByName

@@ -3,6 +3,7 @@
 mod fields;
 mod given;
 mod shapes;
+mod typing;
 
 ghost use Rattle.std.specs.Prelude.{◌≡◌, IfOk};
 ghost use Rattle.dg_decl.specs.Bounds.{IsBounded};

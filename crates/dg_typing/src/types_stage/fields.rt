@@ -6,6 +6,7 @@ ghost use Rattle.dg_hilt.specs.Table.{default_classes};
 ghost use Rattle.dg_types.specs.declared.shape.Shape.{out-Shape};
 ghost use Rattle.dg_decl.specs.Names as declared;
 ghost use Rattle.dg_decl.specs.Typing as spec;
+ghost use Rattle.dg_typing.specs.TypesFields.{fields_in};
 
 use super::given::{Given, class_of};
 use dg_decl::{Item, Param};
@@ -46,6 +47,13 @@ pub fn type_of_param<'a>(params: &'a [Param], name: &[u8]) -> Option<&'a Shape>
 }
 
 impl<'a> Fields<'a> {
+    /// Those that the document declares; None for a class whose objects Hilt binds by default.
+    pub fn declared(&self) -> Option<&'a [Param]>
+        ensures exact { self.now ≡ fields_in result }
+    {
+        self.declared
+    }
+
     /// The type of the field of this name.
     pub fn type_of(&self, name: &[u8]) -> Option<Given<'a>>
         ensures exact { result ≡ spec.type_of_param self.now name.now }
