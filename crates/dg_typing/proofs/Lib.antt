@@ -1,3 +1,5 @@
 pub mod TypeEquations
 pub mod TypeExpressions
 pub mod TypeArguments
+pub mod TypePlaces
+pub mod TypeTrees

@@ -2,8 +2,11 @@
 
 mod fields;
 mod given;
+mod places;
 mod shapes;
+mod trees;
 mod typing;
+mod violation;
 
 ghost use Rattle.std.specs.Prelude.{◌≡◌, IfOk};
 ghost use Rattle.dg_decl.specs.Bounds.{IsBounded};
