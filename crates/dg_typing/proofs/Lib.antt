@@ -3,3 +3,4 @@ pub mod TypeExpressions
 pub mod TypeArguments
 pub mod TypePlaces
 pub mod TypeTrees
+pub mod TypeRules

@@ -3,10 +3,20 @@
 ghost use Rattle.std.specs.Prelude.{◌≡◌, is_some};
 ghost use Rattle.dg_types.specs.Requests as requests;
 ghost use Rattle.dg_decl.specs.Stages.Types as spec;
+ghost use Rattle.dg_typing.specs.TypesPlaced as placed;
 
 use super::shapes::{is_base, is_kind};
 use dg_decl::Mark;
 use dg_types::{Shape, TypeUse};
+
+/// Which types the parameters of a line may have.
+#[derive(Clone, Copy)]
+pub enum Takes {
+    /// Those that ask for no producer.
+    Plain,
+    /// All that ask for something.
+    Any,
+}
 
 /// Whether the type is one that the values of a map may have.
 #[tactic(auto, using(crate::proofs::TypePlaces::found_types), unfolding(dg_types::specs::Requests::value_of, dg_types::specs::Requests::base_of))]
@@ -153,5 +163,15 @@ pub fn is_result_use(mark: &Option<Mark>, used: &TypeUse) -> bool
     match mark {
         Some(Mark::ElementsIntoSet) => is_base_set_use(used),
         _ => is_base_use(used),
+    }
+}
+
+/// Whether a parameter of a line may have the type.
+pub fn is_allowed(takes: Takes, used: &TypeUse) -> bool
+    ensures exact { result ≡ placed.allowed_by takes used.now }
+{
+    match takes {
+        Takes::Plain => is_plain_use(used),
+        Takes::Any => is_use(used),
     }
 }
