@@ -7,7 +7,6 @@ use Rattle.dg_types.specs.declared.shape.Shape.TheVariants as shape
 use Rattle.dg_types.specs.declared.shape.Shape.TheFolds.{fold-roll-Shape}
 use Rattle.dg_types.specs.declared.shape.Shape.TheViews.{out-roll-Shape}
 use Rattle.dg_types.specs.Equality.{same_shape, same_shape_at}
-use Rattle.dg_types.specs.Requests.{Layer}
 
 abbrev tests : Shape-F (Shape → Bool) → Shape → Bool
 tests l s = same_shape_at l (out-Shape s)

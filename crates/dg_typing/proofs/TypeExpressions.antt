@@ -1,5 +1,5 @@
 -- What typing says of an expression or a condition, by its form.
-use Rattle.std.proofs.Common.{◌≡◌, ◌&&◌, ◌||◌, ℤ, List, Bool, false, map, Option, Some, None, is_some, ap, sym, ◌∙◌}
+use Rattle.std.proofs.Common.{◌≡◌, ◌&&◌, ◌||◌, ℤ, List, false, map, Option, Some, None, is_some, ap, sym, ◌∙◌}
 use Rattle.std.specs.Option.{option_map_or}
 use Rattle.dg_lex.specs.Bytes.{Bytes}
 use Rattle.dg_types.specs.declared.shape.Shape.{Shape, out-Shape}
@@ -13,7 +13,7 @@ use Rattle.dg_decl.specs.declared.expression.Expr.{Expr}
 use Rattle.dg_decl.specs.declared.expression.Expr.TheVariants as expr
 use Rattle.dg_decl.specs.declared.expression.Cond.{Cond}
 use Rattle.dg_decl.specs.declared.expression.Cond.TheVariants as cond
-use Rattle.dg_decl.specs.declared.expression.Cond.TheOpen.{Cond-F, Expr-F}
+use Rattle.dg_decl.specs.declared.expression.Cond.TheOpen.{Expr-F}
 use Rattle.dg_decl.specs.Names.{fields_of}
 use Rattle.dg_decl.specs.Typing.{Typed, typed, typed_at, typed_call, is_typed_condition, is_typed_at, is_assignable, type_of_param, type_of_field, type_by_name, typed_or_else, giving, arguments_check, members_check, element_at, one_checks, if_so, part, inside_at, produced_at, is_optional_at}
 use Rattle.dg_typing.proofs.TypeEquations.{out_text, out_int}

@@ -1,5 +1,5 @@
 -- Whether a type is found in another, as it is built from what is found in its parts.
-use Rattle.std.proofs.Common.{◌≡◌, ◌&&◌, ◌||◌, Option, Some, None, is_some, true, false, refl}
+use Rattle.std.proofs.Common.{◌≡◌, ◌&&◌, ◌||◌, Option, Some, None, is_some, refl}
 use Rattle.std.specs.Option.{option_map}
 use Rattle.dg_types.specs.declared.key.MapKind.{MapKind}
 use Rattle.dg_types.specs.Requests.{Held, Asked, map_of, first_of_two}

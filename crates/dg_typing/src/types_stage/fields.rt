@@ -59,7 +59,11 @@ impl<'a> Fields<'a> {
         ensures exact { result ≡ spec.type_of_param self.now name.now }
     {
         match self.declared {
-            None => if name == b"name".as_slice() { Some(Given::text()) } else { None },
+            None => if name == b"name".as_slice() {
+                Some(Given::text())
+            } else {
+                None
+            },
             Some(params) => match type_of_param(params, name) {
                 Some(shape) => Some(Given::whole(shape)),
                 None => None,
@@ -79,7 +83,7 @@ fn is_default(class: &[u8]) -> bool
 pub fn class_item<'a>(names: &Names<'a>, class: &[u8]) -> Option<&'a Item>
     ensures exact { option_map (λ i. i.now) result
         ≡ option_and_then (declared.item_at names.now)
-            (declared.class_item_named names.now class.now) }
+        (declared.class_item_named names.now class.now) }
 {
     match names.class_item_named(class) {
         Some(index) => names.doc().items.as_slice().get(index as usize),
@@ -121,7 +125,10 @@ fn lists(names: &Names<'_>, class: &Name, interface: &Name) -> bool
     ensures exact { result ≡ is_among interface.now (spec.interfaces_of names.now class.now) }
 {
     match class_item(names, class.as_slice()) {
-        Some(Item::Class { interfaces, .. }) => interfaces.as_slice().iter().any(|i| i == interface),
+        Some(Item::Class { interfaces, .. }) => interfaces
+            .as_slice()
+            .iter()
+            .any(|i| i == interface),
         _ => false,
     }
 }

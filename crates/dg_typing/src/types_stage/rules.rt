@@ -8,9 +8,7 @@ ghost use Rattle.dg_typing.specs.TypesPlaced.{bad_among, allowed_by};
 
 use super::fields::{class_item, is_assignable};
 use super::given::Given;
-use super::places::{
-    Takes, is_allowed, is_base_use, is_multi_use, is_plain_use, is_result_use,
-};
+use super::places::{Takes, is_allowed, is_base_use, is_multi_use, is_plain_use, is_result_use};
 use super::trees::tree_checks;
 use super::typing::checks;
 use super::violation::{at_line, of_line};
@@ -79,15 +77,30 @@ fn bad_type(
 {
     match s.item {
         Item::Class { params, .. } => bad_params(alloc, s, params.as_slice(), Takes::Plain, out),
-        Item::Provides { mark, params, result, .. } => {
+        Item::Provides {
+            mark,
+            params,
+            result,
+            ..
+        } => {
             bad_params(alloc, s, params.as_slice(), Takes::Plain, out)?;
             bad_result(alloc, s, mark, result, out)
         }
-        Item::Binds { mark, param, result, .. } => {
+        Item::Binds {
+            mark,
+            param,
+            result,
+            ..
+        } => {
             bad_use(alloc, s, &param.shape, is_base_use(&param.shape), out)?;
             bad_result(alloc, s, mark, result, out)
         }
-        Item::Produces { mark, params, result, .. } => {
+        Item::Produces {
+            mark,
+            params,
+            result,
+            ..
+        } => {
             bad_params(alloc, s, params.as_slice(), Takes::Any, out)?;
             bad_result(alloc, s, mark, result, out)
         }
@@ -128,7 +141,7 @@ fn optional_class(item: &Item) -> Option<&Name>
 fn is_injected(names: &Names<'_>, class: &Name) -> bool
     ensures exact { result ≡ option_map_or spec.is_injected
         (option_and_then (declared.item_at names.now)
-            (declared.class_item_named names.now class.now)) false }
+        (declared.class_item_named names.now class.now)) false }
 {
     match class_item(names, class.as_slice()) {
         Some(Item::Class { inject, .. }) => *inject,
@@ -162,15 +175,21 @@ fn has_its_type<'a>(names: &Names<'a>, item: &'a Item) -> bool
     ensures exact { result ≡ spec.has_its_type names.now item.now }
 {
     match item {
-        Item::Provides { params, result, body, .. } => {
-            checks(names, params.as_slice(), body, &result.shape)
-        }
+        Item::Provides {
+            params,
+            result,
+            body,
+            ..
+        } => { checks(names, params.as_slice(), body, &result.shape) }
         Item::Binds { param, result, .. } => {
             is_assignable(names, &Given::whole(&param.shape.shape), &result.shape)
         }
-        Item::Produces { params, result, body, .. } => {
-            tree_checks(names, params.as_slice(), body, &result.shape)
-        }
+        Item::Produces {
+            params,
+            result,
+            body,
+            ..
+        } => { tree_checks(names, params.as_slice(), body, &result.shape) }
         _ => true,
     }
 }
@@ -201,7 +220,7 @@ pub fn types_at<'a>(
 ) -> Result<(), NoMemory>
     ensures exact { OnOk result (out.new.items ≡ out.old.items
         ++ (spec.bad_type names.now s.now ++ spec.optional_of_inject names.now s.now
-            ++ spec.type_mismatch names.now s.now)) }
+        ++ spec.type_mismatch names.now s.now)) }
 {
     bad_type(alloc, names, s, out)?;
     optional_of_inject(alloc, names, s, out)?;

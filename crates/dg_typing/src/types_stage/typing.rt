@@ -31,7 +31,11 @@ fn given_by(f: ParamCall, shape: &Shape) -> Option<Given<'_>>
         ParamCall::Get => found(got(shape)),
         ParamCall::Value => found(produced(shape)),
         ParamCall::Values => values(shape),
-        ParamCall::Failure => if produced(shape).is_some() { Some(Given::text()) } else { None },
+        ParamCall::Failure => if produced(shape).is_some() {
+            Some(Given::text())
+        } else {
+            None
+        },
     }
 }
 
@@ -115,7 +119,10 @@ pub fn synth<'a>(names: &Names<'a>, params: &'a [Param], e: &'a Expr) -> Option<
         Expr::Int(_) => Some(Given::int()),
         Expr::Param(name) => given_param(params, name.as_slice()),
         Expr::New { class, args } => {
-            if_so(makes(names, params, class.as_slice(), args.as_slice()), Given::object(class))
+            if_so(
+                makes(names, params, class.as_slice(), args.as_slice()),
+                Given::object(class),
+            )
         }
         Expr::Field { of, field } => match synth(names, params, of.get()) {
             Some(given) => type_of_field(names, &given, field.as_slice()),
@@ -130,10 +137,7 @@ pub fn synth<'a>(names: &Names<'a>, params: &'a [Param], e: &'a Expr) -> Option<
         Expr::Call { f, args } => type_of_call(names, params, *f, args.as_slice()),
         Expr::ByName { f, param } => type_by_name(params, *f, param.as_slice()),
         Expr::OrElse { param, other } => match inside_param(params, param.as_slice()) {
-            Some(base) => if_so(
-                checks(names, params, other.get(), base),
-                Given::whole(base),
-            ),
+            Some(base) => if_so(checks(names, params, other.get(), base), Given::whole(base)),
             None => None,
         },
     }
@@ -151,7 +155,10 @@ fn type_of_call<'a>(
         (map (spec.typed names.now params.now) args.now)).gives }
 {
     match f {
-        CallName::Cat => if_so(each_checks(names, params, args, &Shape::Text), Given::text()),
+        CallName::Cat => if_so(
+            each_checks(names, params, args, &Shape::Text),
+            Given::text(),
+        ),
         CallName::TextOf => if_so(one_checks(names, params, args, &Shape::Int), Given::text()),
         CallName::Size => if_so(one_has_size(names, params, args), Given::int()),
         CallName::SetOf | CallName::Fail => None,
@@ -200,12 +207,7 @@ fn arguments_check<'a>(
 
 /// Whether each of the arguments checks against a type.
 #[cycle(typing)]
-fn each_checks<'a>(
-    names: &Names<'a>,
-    params: &'a [Param],
-    args: &'a [Expr],
-    wanted: &Shape,
-) -> bool
+fn each_checks<'a>(names: &Names<'a>, params: &'a [Param], args: &'a [Expr], wanted: &Shape) -> bool
     ensures exact { result ≡ list_all (λ x. x.checks wanted.now)
         (map (spec.typed names.now params.now) args.now) }
 {
@@ -219,12 +221,7 @@ fn each_checks<'a>(
 
 /// Whether there is one argument, and it checks against a type.
 #[cycle(typing)]
-fn one_checks<'a>(
-    names: &Names<'a>,
-    params: &'a [Param],
-    args: &'a [Expr],
-    wanted: &Shape,
-) -> bool
+fn one_checks<'a>(names: &Names<'a>, params: &'a [Param], args: &'a [Expr], wanted: &Shape) -> bool
     ensures exact { result
         ≡ spec.one_checks (map (spec.typed names.now params.now) args.now) wanted.now }
 {

@@ -37,9 +37,9 @@ pub fn at_line(
 /// A rule that a line breaks.
 pub fn of_line(alloc: Global, rule: Rule, s: &Statement<'_>) -> Result<Violation, NoMemory>
     ensures exact { IfOk result (λ v. v ≡ record {
-        rule = rule;
-        site = sites.site_of_line s.now.line;
-        detail = None;
+      rule = rule;
+      site = sites.site_of_line s.now.line;
+      detail = None;
     }) }
 {
     Ok(Violation {
