@@ -1,0 +1,4 @@
+pub mod TypesGiven
+pub mod TypesFields
+pub mod TypesByName
+pub mod TypesPlaced

@@ -1,0 +1,50 @@
+//! What a line breaks.
+
+ghost use Rattle.std.specs.Prelude.{◌≡◌, IfOk, None};
+ghost use Rattle.dg_decl.specs.Sites as sites;
+ghost use Rattle.dg_decl.specs.Stages.Components as spec;
+
+use dg_decl::{Rule, Violation};
+use dg_names::Statement;
+use dg_types::{NoMemory, Text};
+use std::alloc::Global;
+
+/// The site of a line.
+#[tactic(auto, unfolding(dg_decl::specs::Sites::site_of_line))]
+fn site_of_line(alloc: Global, line: u32) -> Result<Text, NoMemory>
+    ensures exact { IfOk result (λ site. site ≡ sites.site_of_line line) }
+{
+    let site = format!(in alloc; "line {line}")?;
+    Ok(Text::from_vec(site.into_bytes()))
+}
+
+/// A rule that a line breaks by these bytes.
+pub fn at_line(
+    alloc: Global,
+    rule: Rule,
+    s: &Statement<'_>,
+    detail: Vec<u8>,
+) -> Result<Violation, NoMemory>
+    ensures exact { IfOk result (λ v. v ≡ spec.at_line rule s.now detail.items) }
+{
+    Ok(Violation {
+        rule,
+        site: site_of_line(alloc, s.line)?,
+        detail: Some(Text::from_vec(detail)),
+    })
+}
+
+/// A rule that a line breaks.
+pub fn of_line(alloc: Global, rule: Rule, s: &Statement<'_>) -> Result<Violation, NoMemory>
+    ensures exact { IfOk result (λ v. v ≡ record {
+      rule = rule;
+      site = sites.site_of_line s.now.line;
+      detail = None;
+    }) }
+{
+    Ok(Violation {
+        rule,
+        site: site_of_line(alloc, s.line)?,
+        detail: None,
+    })
+}
