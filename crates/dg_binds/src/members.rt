@@ -47,11 +47,7 @@ fn marked_core(mark: &Option<Mark>, core: Core) -> Option<Core>
 }
 
 /// The key that a member of this mark and result binds, adds to or declares.
-fn marked_key(
-    alloc: Global,
-    mark: &Option<Mark>,
-    given: &TypeUse,
-) -> Result<Option<Key>, NoMemory>
+fn marked_key(alloc: Global, mark: &Option<Mark>, given: &TypeUse) -> Result<Option<Key>, NoMemory>
     ensures exact { IfOk result (λ key. key ≡ keys.marked_key mark.now given.now) }
 {
     let Some(key) = key_of_use(alloc, given)? else {
@@ -102,11 +98,7 @@ fn bind_marked(
 }
 
 /// A statement of a module as a binding, if it is one.
-fn binding_in(
-    alloc: Global,
-    statement: &Statement,
-    owner: u32,
-) -> Result<Option<Bind>, NoMemory>
+fn binding_in(alloc: Global, statement: &Statement, owner: u32) -> Result<Option<Bind>, NoMemory>
     ensures exact { IfOk result (λ bind. bind ≡ lookup.binding_in statement.now owner) }
 {
     let place = (statement.index, owner);

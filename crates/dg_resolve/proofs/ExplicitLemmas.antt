@@ -101,13 +101,13 @@ hilt_rows doc classes c k e lt =
           ∙ pick (λ x. true) (λ x. rows_of_bounds x (bounds_at classes x) c k) c (bounds_elsewhere classes c k) hilt_count within
           ∙ ap (λ (bs : List Bound). rows_of_bounds c bs c k) (bounds_are doc classes c e lt ∙ bound_of_hilt doc c within)
           ∙ bounds_here c k (option_to_list (option_and_then default_bound (hilt_row c)))
-        )
+          )
       | inr past ↦ (
           flat_map_nothing (λ x. rows_of_bounds x (bounds_at classes x) c k) (range_with_len 0 hilt_count)
           (λ x h. bounds_elsewhere classes c k x (ne_eqb c x (λ (same : c ≡ x). (let small : x < hilt_count = out_range hilt_count x h in omega arith))))
           ∙ sym (ap (λ (o : Option HiltRow). map (λ b. owned c ref.Default) (filter (λ b. has_key k b.shape) (option_to_list (option_and_then default_bound o))))
-            (slice_get_past hilt_classes c past))
-        )
+          (slice_get_past hilt_classes c past))
+          )
     ]
 
 -- ---- exposed entries
@@ -136,14 +136,14 @@ entries_are doc exposed c e lt =
 pub exposed_rows : (doc : Doc) (headed : Numbers) (exposed : List (List Exposed)) (s : Statement) (c : ℕ) (k : Key)
     → AreHeaders doc headed → exposed ≡ exposed_by_class doc → c < class_count doc
     → rows_of_exposed exposed (of_number s.index headed) c k
-      ≡ (if is_header_of doc c s then explicit_exposed doc c k else [])
+    ≡ (if is_header_of doc c s then explicit_exposed doc c k else [])
 exposed_rows doc headed exposed s c k are e lt =
     ap (λ (l : List ℕ). flat_map (λ x. rows_of_entries x (entries_at exposed x) c k) l) (are.each s.index)
     ∙ pick (λ x. is_number s.index (header_index doc x)) (λ x. rows_of_entries x (entries_at exposed x) c k) c
-      (entry_elsewhere exposed c k) (class_count doc) lt
+    (entry_elsewhere exposed c k) (class_count doc) lt
     ∙ ap (λ (l : List Owned). if is_header_of doc c s then l else [])
-      (ap (λ (es : List Exposed). rows_of_entries c es c k) (entries_are doc exposed c e lt)
-      ∙ entries_here c k (exposed_of doc c))
+    (ap (λ (es : List Exposed). rows_of_entries c es c k) (entries_are doc exposed c e lt)
+    ∙ entries_here c k (exposed_of doc c))
 
 -- ---- bound arguments
 
@@ -155,13 +155,13 @@ pub lines_before : (doc : Doc) (headed lines : Numbers) (done : List Statement) 
 lines_before doc headed lines done c are lt is =
     ap length (is
     ∙ flat_map_same (λ s. flat_map (λ x. if c == x then s.index ∷ [] else []) (classes_of_line headed s))
-      (λ s. if is_line doc c s then s.index ∷ [] else []) done (λ s h. line_at doc headed c s are lt)
+    (λ s. if is_line doc c s then s.index ∷ [] else []) done (λ s h. line_at doc headed c s are lt)
     ∙ filter_as (is_line doc c) (λ s. s.index) done)
     ∙ length-map (filter (is_line doc c) done) (λ (s : Statement). s.index)
 
 argument_tests : (b s : Bool) (c n : ℕ)
     → (if b then (if s then owned c (ref.Arg n) ∷ [] else []) else [])
-      ≡ (if s then map (λ a. owned c (ref.Arg a)) (option_to_list (if b && true then Some n else None)) else [])
+    ≡ (if s then map (λ a. owned c (ref.Arg a)) (option_to_list (if b && true then Some n else None)) else [])
 argument_tests true true c n = refl
 argument_tests true false c n = refl
 argument_tests false true c n = refl
@@ -179,24 +179,24 @@ argument_here : (doc : Doc) (headed lines : Numbers) (done : List Statement) (s 
     → length (of_number c lines) ≡ length (filter (is_line doc c) done)
     → bound_in s.item ≡ Some b
     → rows_of_argument lines (classes_around headed s.block) key c k
-      ≡ (if same_key key k
-          then map (λ a. owned c (ref.Arg a)) (option_to_list (position (λ x. x.index == s.index) (bound_lines doc c)))
-          else [])
+    ≡ (if same_key key k
+    then map (λ a. owned c (ref.Arg a)) (option_to_list (position (λ x. x.index == s.index) (bound_lines doc c)))
+    else [])
 argument_here doc headed lines done s rest b key c k are lt split count is =
     let f : ℕ → List Owned = λ x. row x key (owned x (ref.Arg (length (of_number x lines)))) c k in
     let line : is_line doc c s ≡ (in_block doc c s && true) =
-        ap (λ (o : Option Bound). in_block doc c s && is_some o) is in
+    ap (λ (o : Option Bound). in_block doc c s && is_some o) is in
     let at : position (λ x. x.index == s.index) (bound_lines doc c)
-          ≡ (if in_block doc c s && true then Some (length (of_number c lines)) else None) =
-        ap (λ (l : List Statement). position (λ x. x.index == s.index) l)
-        (lines_are doc c ∙ ap (filter (is_line doc c)) split)
-        ∙ position_among (is_line doc c) 0 done s rest (subst (Rises 0) split (statements_rise doc))
-        ∙ ap (λ (t : Bool). if t then Some (length (filter (is_line doc c) done)) else None) line
-        ∙ ap (λ (n : ℕ). if in_block doc c s && true then Some n else None) (sym count) in
+    ≡ (if in_block doc c s && true then Some (length (of_number c lines)) else None) =
+    ap (λ (l : List Statement). position (λ x. x.index == s.index) l)
+    (lines_are doc c ∙ ap (filter (is_line doc c)) split)
+    ∙ position_among (is_line doc c) 0 done s rest (subst (Rises 0) split (statements_rise doc))
+    ∙ ap (λ (t : Bool). if t then Some (length (filter (is_line doc c) done)) else None) line
+    ∙ ap (λ (n : ℕ). if in_block doc c s && true then Some n else None) (sym count) in
     ap (λ (l : List ℕ). flat_map f l) (around_is doc headed s are)
     ∙ pick (λ x. in_block doc x s) f c (argument_elsewhere lines key c k) (class_count doc) lt
     ∙ ap (λ (l : List Owned). if in_block doc c s then l else [])
-      (row_here key (owned c (ref.Arg (length (of_number c lines)))) c k)
+    (row_here key (owned c (ref.Arg (length (of_number c lines)))) c k)
     ∙ argument_tests (in_block doc c s) (same_key key k) c (length (of_number c lines))
     ∙ ap (λ (o : Option ℕ). if same_key key k then map (λ a. owned c (ref.Arg a)) (option_to_list o) else []) (sym at)
 
@@ -206,26 +206,26 @@ bound_here : (doc : Doc) (headed lines : Numbers) (done : List Statement) (s : S
     → length (of_number c lines) ≡ length (filter (is_line doc c) done)
     → bound_in s.item ≡ Some b
     → rows_of_bound lines (classes_around headed s.block) (key_of_use b.shape) c k
-      ≡ (if has_key k b.shape
-          then map (λ a. owned c (ref.Arg a)) (option_to_list (position (λ x. x.index == s.index) (bound_lines doc c)))
-          else [])
+    ≡ (if has_key k b.shape
+    then map (λ a. owned c (ref.Arg a)) (option_to_list (position (λ x. x.index == s.index) (bound_lines doc c)))
+    else [])
 bound_here doc headed lines done s rest b c k are lt split count is = by (key_of_use b.shape) refl
   where
     by : (o : Option Key) → key_of_use b.shape ≡ o
         → rows_of_bound lines (classes_around headed s.block) (key_of_use b.shape) c k
-          ≡ (if has_key k b.shape
-              then map (λ a. owned c (ref.Arg a)) (option_to_list (position (λ x. x.index == s.index) (bound_lines doc c)))
-              else [])
+        ≡ (if has_key k b.shape
+        then map (λ a. owned c (ref.Arg a)) (option_to_list (position (λ x. x.index == s.index) (bound_lines doc c)))
+        else [])
     by None e =
         ap (λ (o : Option Key). rows_of_bound lines (classes_around headed s.block) o c k) e
         ∙ ap (λ (t : Bool). if t then map (λ a. owned c (ref.Arg a)) (option_to_list (position (λ x. x.index == s.index) (bound_lines doc c))) else [])
-          (sym (has_none k b.shape e))
+        (sym (has_none k b.shape e))
     by (Some key) e =
         ap (λ (o : Option Key). rows_of_bound lines (classes_around headed s.block) o c k) e
         ∙ append-nil (rows_of_argument lines (classes_around headed s.block) key c k)
         ∙ argument_here doc headed lines done s rest b key c k are lt split count is
         ∙ ap (λ (t : Bool). if t then map (λ a. owned c (ref.Arg a)) (option_to_list (position (λ x. x.index == s.index) (bound_lines doc c))) else [])
-          (sym (has_some k key b.shape e))
+        (sym (has_some k key b.shape e))
 
 pub argument_rows : (doc : Doc) (headed lines : Numbers) (done : List Statement) (s : Statement) (rest : List Statement)
     (c : ℕ) (k : Key)
@@ -247,6 +247,6 @@ pub next_rows : (doc : Doc) (installers : Numbers) (s : Statement) (next : Optio
 next_rows doc installers s next c k are lt is =
     ap (λ (o : Option Bind). rows_of_next installers o c k) is
     ∙ flat_map_same (λ b. rows_of_member installers wanted.Explicit b c k)
-      (λ b. if acts_in doc c is_explicit k b then owned c (ref.Member b.item) ∷ [] else [])
-      (option_to_list (binding_of s)) (λ b h. member_row doc installers wanted.Explicit b c k are lt)
+    (λ b. if acts_in doc c is_explicit k b then owned c (ref.Member b.item) ∷ [] else [])
+    (option_to_list (binding_of s)) (λ b h. member_row doc installers wanted.Explicit b c k are lt)
     ∙ filter_as (acts_in doc c is_explicit k) (λ b. owned c (ref.Member b.item)) (option_to_list (binding_of s))

@@ -66,11 +66,11 @@ pass_goes_on doc headed installers bs exposed i place next lines more s old new 
     let ss = statements doc in
     let at = is_at ss i s lt is in
     let split : ss ≡ take i ss ++ s ∷ drop (suc i) ss =
-        split_of ss i ∙ ap (λ (l : List Statement). take i ss ++ l) at.1 in
+    split_of ss i ∙ ap (λ (l : List Statement). take i ss ++ l) at.1 in
     let rises : Rises (suc s.index) (drop (suc i) ss) =
-        rises_behind 0 (take i ss) s (drop (suc i) ss) (subst (Rises 0) split (statements_rise doc)) in
+    rises_behind 0 (take i ss) s (drop (suc i) ss) (subst (Rises 0) split (statements_rise doc)) in
     let stand : (t : Statement) → Contains (s ∷ drop (suc i) ss) t → Contains ss t =
-        λ t h. subst (λ (l : List Statement). Contains l t) (sym split) (Contains-append_right (take i ss) (s ∷ drop (suc i) ss) t h) in
+    λ t h. subst (λ (l : List Statement). Contains l t) (sym split) (Contains-append_right (take i ss) (s ∷ drop (suc i) ss) t h) in
     let one = next_is doc bs place s (drop (suc i) ss) rises stand (knows.left ∙ ap (filter_map binding_of) at.1) in
     let counted : i + 1 ≡ suc i = omega arith in
     let taken : take (i + 1) ss ≡ take i ss ++ s ∷ [] = ap (λ (n : ℕ). take n ss) counted ∙ at.0 in
@@ -81,7 +81,7 @@ pass_goes_on doc headed installers bs exposed i place next lines more s old new 
           grows.each c k there
           ∙ ap (λ (l : List Owned). l ++ rows_of_statement headed installers lines bs exposed place s c k) (knows.rows c k within)
           ∙ ap (λ (l : List Owned). (explicit_default doc c k ++ flat_map (explicit_at doc c k) (take i ss)) ++ l)
-            (binds c k within split one.0)
+          (binds c k within split one.0)
           ∙ flat_map_more (explicit_at doc c k) (explicit_default doc c k) (take i ss) s
           ∙ ap (λ (l : List Statement). explicit_default doc c k ++ flat_map (explicit_at doc c k) l) (sym taken);
       noted = λ c.
@@ -101,10 +101,10 @@ pass_goes_on doc headed installers bs exposed i place next lines more s old new 
         ap (λ (l : List Owned). l ++ rows_of_bound lines (classes_of_line headed s) (key_of_line s) c k ++ rows_of_next installers (next_at bs place s.index) c k)
         (exposed_rows doc headed exposed s c k are all within)
         ∙ ap (λ (l : List Owned). (if is_header_of doc c s then explicit_exposed doc c k else []) ++ l ++ rows_of_next installers (next_at bs place s.index) c k)
-          (argument_rows doc headed lines (take i (statements doc)) s (drop (suc i) (statements doc)) c k are within split
-            (lines_before doc headed lines (take i (statements doc)) c are within (knows.noted c)))
+        (argument_rows doc headed lines (take i (statements doc)) s (drop (suc i) (statements doc)) c k are within split
+        (lines_before doc headed lines (take i (statements doc)) c are within (knows.noted c)))
         ∙ ap (λ (l : List Owned). (if is_header_of doc c s then explicit_exposed doc c k else []) ++ explicit_argument doc c k s ++ l)
-          (next_rows doc installers s (next_at bs place s.index) c k put within next_one)
+        (next_rows doc installers s (next_at bs place s.index) c k put within next_one)
 
 all_taken : (ss : List Statement) → take (length ss) ss ≡ ss
 all_taken [] = refl

@@ -46,7 +46,7 @@ map_of doc c q m b i = multi_as _ found.MapOf _
 
 optional_of : (doc : Doc) (c : ℕ) (q : Option Qualifier) (b : Base) (i : Inner)
     → find_without_explicit doc c (Of q (core.Optional b i))
-      ≡ (if acts_in_chain doc c declares_optional (opening_key (Of q (core.Optional b i))) then found.OptionalOf else found.Nothing)
+    ≡ (if acts_in_chain doc c declares_optional (opening_key (Of q (core.Optional b i))) then found.OptionalOf else found.Nothing)
 unfolding find_without_explicit is_optional_declared
 optional_of doc c q b i = refl
 
@@ -75,7 +75,7 @@ map_found doc c k m b i e =
 
 pub optional_found : (doc : Doc) (c : ℕ) (k : Key) (b : Base) (i : Inner) → k.core ≡ core.Optional b i
     → find_without_explicit doc c k
-      ≡ (if acts_in_chain doc c declares_optional (opening_key k) then found.OptionalOf else found.Nothing)
+    ≡ (if acts_in_chain doc c declares_optional (opening_key k) then found.OptionalOf else found.Nothing)
 optional_found doc c k b i e =
     subst (λ (x : Core). find_without_explicit doc c (Of k.qualifier x) ≡ (if acts_in_chain doc c declares_optional (opening_key (Of k.qualifier x)) then found.OptionalOf else found.Nothing)) (sym e)
     (optional_of doc c k.qualifier b i)

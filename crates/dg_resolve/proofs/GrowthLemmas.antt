@@ -62,7 +62,7 @@ grows_at class key o old r new lt is a = record {
   where
     at : (c : ℕ) (k : Key) (b : Bool) → (c == class) ≡ b
         → of_class c k (set old class new)
-          ≡ of_class c k old ++ (if b && same_key k key then o ∷ [] else [])
+        ≡ of_class c k old ++ (if b && same_key k key then o ∷ [] else [])
     at c k true e =
         let same : c ≡ class = (Decides-eqb c class).0 e in
         ap (of_key k) (unwrap_or-slice_get (set old class new) c []

@@ -31,9 +31,9 @@ front_before low (d ∷ done) s rest x rises h =
     elim (first_or_rest x d done h) [
       | inl e ↦ (
           let later : suc d.index ≤ s.index = at_least (suc d.index) (done ++ s ∷ rest) s rises.1
-              (Contains-append_right done (s ∷ rest) s (in_front s rest)) in
+          (Contains-append_right done (s ∷ rest) s (in_front s rest)) in
           let same : d.index ≡ x.index = ap (λ (t : Statement). t.index) e in omega arith
-        )
+          )
       | inr r ↦ front_before (suc d.index) done s rest x rises.1 r
     ]
 
@@ -51,7 +51,7 @@ place_in p [] s rest before here = rw here refl
 place_in p (x ∷ front) s rest before here =
     let other : p x ≡ false = before x (in_front x front) in
     let later : position_or_len p (front ++ s ∷ rest) ≡ length front =
-        place_in p front s rest (λ y h. before y (in_rest y x front h)) here in
+    place_in p front s rest (λ y h. before y (in_rest y x front h)) here in
     rw other (omega arith)
 
 place_past : (p : Statement → Bool) (xs : List Statement) → ((x : Statement) → Contains xs x → p x ≡ false)
@@ -72,7 +72,7 @@ position_in : (p : Statement → Bool) (front : List Statement) (s : Statement) 
 position_in p front s rest before here =
     let place : position_or_len p (front ++ s ∷ rest) ≡ length front = place_in p front s rest before here in
     let within : nat_lt (length front) (length (front ++ s ∷ rest)) ≡ true =
-        lt-ltb (length front) (length (front ++ s ∷ rest)) (length_longer front s rest) in
+    lt-ltb (length front) (length (front ++ s ∷ rest)) (length_longer front s rest) in
     rw (place, within) refl
 
 not_below_itself : (n : ℕ) → nat_lt n n ≡ false
@@ -89,7 +89,7 @@ position_none p xs before =
 pub position_among : (q : Statement → Bool) (low : ℕ) (done : List Statement) (s : Statement) (rest : List Statement)
     → Rises low (done ++ s ∷ rest)
     → position (λ x. x.index == s.index) (filter q (done ++ s ∷ rest))
-      ≡ (if q s then Some (length (filter q done)) else None)
+    ≡ (if q s then Some (length (filter q done)) else None)
 position_among q low done s rest rises =
     ap (λ (l : List Statement). position (λ x. x.index == s.index) l) (filter-append q done (s ∷ rest))
     ∙ by (q s)
@@ -157,14 +157,14 @@ block_some doc c s h e = by s.block refl
 
 lines_of_header : (doc : Doc) (c : ℕ) (o : Option Statement) → header_of doc c ≡ o
     → filter (λ s. is_some (bound_in s.item)) (flat_map (λ h. members doc h.index) (option_to_list o))
-      ≡ filter (is_line doc c) (statements doc)
+    ≡ filter (is_line doc c) (statements doc)
 lines_of_header doc c None e =
     sym (filter_none (is_line doc c) (statements doc)
-      (λ s. ap (λ (b : Bool). b && is_some (bound_in s.item)) (block_none doc c s e)))
+    (λ s. ap (λ (b : Bool). b && is_some (bound_in s.item)) (block_none doc c s e)))
 lines_of_header doc c (Some h) e =
     ap (λ (l : List Statement). filter (λ s. is_some (bound_in s.item)) l) (append-nil (members doc h.index))
     ∙ filter_both (λ s. is_some (bound_in s.item)) (stands_in h.index) (is_line doc c) (statements doc)
-      (λ s. ap (λ (b : Bool). b && is_some (bound_in s.item)) (block_some doc c s h e))
+    (λ s. ap (λ (b : Bool). b && is_some (bound_in s.item)) (block_some doc c s h e))
 
 pub lines_are : (doc : Doc) (c : ℕ) → bound_lines doc c ≡ filter (is_line doc c) (statements doc)
 lines_are doc c = lines_of_header doc c (header_of doc c) refl
@@ -172,26 +172,26 @@ lines_are doc c = lines_of_header doc c (header_of doc c) refl
 -- the classes in whose block a statement stands
 pub around_is : (doc : Doc) (headed : Numbers) (s : Statement) → AreHeaders doc headed
     → classes_around headed s.block
-      ≡ flat_map (λ x. if in_block doc x s then x ∷ [] else []) (range_with_len 0 (class_count doc))
+    ≡ flat_map (λ x. if in_block doc x s then x ∷ [] else []) (range_with_len 0 (class_count doc))
 around_is doc headed s are = by s.block refl
   where
     by : (o : Option ℕ) → s.block ≡ o
         → classes_around headed s.block
-          ≡ flat_map (λ x. if in_block doc x s then x ∷ [] else []) (range_with_len 0 (class_count doc))
+        ≡ flat_map (λ x. if in_block doc x s then x ∷ [] else []) (range_with_len 0 (class_count doc))
     by None e =
         ap (classes_around headed) e
         ∙ sym (flat_map_nothing (λ x. if in_block doc x s then x ∷ [] else []) (range_with_len 0 (class_count doc))
-          (λ x h. rw e refl))
+        (λ x h. rw e refl))
     by (Some b) e =
         ap (classes_around headed) e ∙ are.each b
         ∙ flat_map_same (λ x. if is_number b (header_index doc x) then x ∷ [] else [])
-          (λ x. if in_block doc x s then x ∷ [] else []) (range_with_len 0 (class_count doc))
-          (λ x h. rw e refl)
+        (λ x. if in_block doc x s then x ∷ [] else []) (range_with_len 0 (class_count doc))
+        (λ x h. rw e refl)
 
 -- one line of a class, by its index
 pub line_at : (doc : Doc) (headed : Numbers) (c : ℕ) (s : Statement) → AreHeaders doc headed → c < class_count doc
     → flat_map (λ x. if c == x then s.index ∷ [] else []) (classes_of_line headed s)
-      ≡ (if is_line doc c s then s.index ∷ [] else [])
+    ≡ (if is_line doc c s then s.index ∷ [] else [])
 line_at doc headed c s are lt = by (bound_in s.item) refl
   where
     none : (b : Bool) → [] ≡ (if b && false then s.index ∷ [] else [])
@@ -204,12 +204,12 @@ line_at doc headed c s are lt = by (bound_in s.item) refl
 
     by : (o : Option Bound) → bound_in s.item ≡ o
         → flat_map (λ x. if c == x then s.index ∷ [] else []) (classes_of_line headed s)
-          ≡ (if is_line doc c s then s.index ∷ [] else [])
+        ≡ (if is_line doc c s then s.index ∷ [] else [])
     by None e = rw e (none (in_block doc c s))
     by (Some b) e =
         rw e (ap (λ (l : List ℕ). flat_map (λ x. if c == x then s.index ∷ [] else []) l) (around_is doc headed s are)
         ∙ pick (λ x. in_block doc x s) (λ x. if c == x then s.index ∷ [] else []) c
-          (λ x ne. ap (λ (t : Bool). if t then s.index ∷ [] else []) ne) (class_count doc) lt
+        (λ x ne. ap (λ (t : Bool). if t then s.index ∷ [] else []) ne) (class_count doc) lt
         ∙ tests (in_block doc c s))
 
 -- ---- the next binding
@@ -232,13 +232,13 @@ pub next_is : (doc : Doc) (bs : List Bind) (place : ℕ) (s : Statement) (rest :
     → Rises (suc s.index) rest → ((t : Statement) → Contains (s ∷ rest) t → Contains (statements doc) t)
     → drop place bs ≡ filter_map binding_of (s ∷ rest)
     → (next_at bs place s.index ≡ binding_of s)
-      × (drop (place + length (option_to_list (next_at bs place s.index))) bs ≡ filter_map binding_of rest)
+    × (drop (place + length (option_to_list (next_at bs place s.index))) bs ≡ filter_map binding_of rest)
 next_is doc bs place s rest rises stand left = by (binding_of s) refl
   where
     found : (b : Bind) → binding_of s ≡ Some b → slice_get bs place ≡ Some b → next_at bs place s.index ≡ Some b
     found b is at =
         let same : (b.item == s.index) ≡ true =
-            eq-eqb b.item s.index (sym (binding_item doc s b (stand s (in_front s rest)) is)) in
+        eq-eqb b.item s.index (sym (binding_item doc s b (stand s (in_front s rest)) is)) in
         rw (at, same) refl
 
     other : (b : Bind) → Contains (filter_map binding_of rest) b → slice_get bs place ≡ Some b
@@ -248,18 +248,17 @@ next_is doc bs place s rest rises stand left = by (binding_of s) refl
         let later : suc s.index ≤ o.0.index = at_least (suc s.index) rest o.0 rises o.1 in
         let item : o.0.index ≡ b.item = binding_item doc o.0 b (stand o.0 (in_rest o.0 s rest o.1)) o.2 in
         let differs : (b.item == s.index) ≡ false =
-            ne_eqb b.item s.index (λ (e : b.item ≡ s.index). omega (arith, later, item, e)) in
+        ne_eqb b.item s.index (λ (e : b.item ≡ s.index). omega (arith, later, item, e)) in
         rw (at, differs) refl
 
     past : next_at bs place s.index ≡ None → binding_of s ≡ None → drop place bs ≡ filter_map binding_of rest
         → (next_at bs place s.index ≡ binding_of s)
-          × (drop (place + length (option_to_list (next_at bs place s.index))) bs ≡ filter_map binding_of rest)
+        × (drop (place + length (option_to_list (next_at bs place s.index))) bs ≡ filter_map binding_of rest)
     past next is at =
-        let same : place + 0 ≡ place = omega arith in
-        (
+        let same : place + 0 ≡ place = omega arith in (
           next ∙ sym is,
           ap (λ (o : Option Bind). drop (place + length (option_to_list o)) bs) next
-          ∙ ap (λ (n : ℕ). drop n bs) same ∙ at,
+              ∙ ap (λ (n : ℕ). drop n bs) same ∙ at,
         )
 
     front : (l : List Bind) → filter_map binding_of rest ≡ l → drop place bs ≡ l → next_at bs place s.index ≡ None
@@ -269,19 +268,18 @@ next_is doc bs place s rest rises stand left = by (binding_of s) refl
 
     by : (o : Option Bind) → binding_of s ≡ o
         → (next_at bs place s.index ≡ binding_of s)
-          × (drop (place + length (option_to_list (next_at bs place s.index))) bs ≡ filter_map binding_of rest)
+        × (drop (place + length (option_to_list (next_at bs place s.index))) bs ≡ filter_map binding_of rest)
     by None is =
         let at : drop place bs ≡ filter_map binding_of rest =
-            left ∙ ap (λ (o : Option Bind). cons_option o (filter_map binding_of rest)) is in
+        left ∙ ap (λ (o : Option Bind). cons_option o (filter_map binding_of rest)) is in
         past (front (filter_map binding_of rest) refl at) is at
     by (Some b) is =
         let at : drop place bs ≡ b ∷ filter_map binding_of rest =
-            left ∙ ap (λ (o : Option Bind). cons_option o (filter_map binding_of rest)) is in
+        left ∙ ap (λ (o : Option Bind). cons_option o (filter_map binding_of rest)) is in
         let got = got_front bs place b (filter_map binding_of rest) at in
         let next = found b is got.0 in
-        let one : place + 1 ≡ suc place = omega arith in
-        (
+        let one : place + 1 ≡ suc place = omega arith in (
           next ∙ sym is,
           ap (λ (o : Option Bind). drop (place + length (option_to_list o)) bs) next
-          ∙ ap (λ (n : ℕ). drop n bs) one ∙ got.1,
+              ∙ ap (λ (n : ℕ). drop n bs) one ∙ got.1,
         )

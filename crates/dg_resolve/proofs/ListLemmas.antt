@@ -31,7 +31,7 @@ filter_as p f (x ∷ xs) = by (p x) (filter_as p f xs)
   where
     by : (b : Bool) → flat_map (λ x. if p x then f x ∷ [] else []) xs ≡ map f (filter p xs)
         → (if b then f x ∷ [] else []) ++ flat_map (λ x. if p x then f x ∷ [] else []) xs
-          ≡ map f (cond b (x ∷ filter p xs) (filter p xs))
+        ≡ map f (cond b (x ∷ filter p xs) (filter p xs))
     by true e = ap (λ (l : List _). f x ∷ l) e
     by false e = e
 

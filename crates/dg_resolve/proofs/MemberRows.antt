@@ -31,7 +31,7 @@ row_here key o c k =
 
 tests : (t s i : Bool) (o : Owned)
     → (if t then (if i then (if s then o ∷ [] else []) else []) else [])
-      ≡ (if t && s && i then o ∷ [] else [])
+    ≡ (if t && s && i then o ∷ [] else [])
 tests true true true o = refl
 tests true true false o = refl
 tests true false true o = refl
@@ -42,12 +42,12 @@ tests false false i o = refl
 pub member_row : (doc : Doc) (installers : Numbers) (w : Wanted) (b : Bind) (c : ℕ) (k : Key)
     → AreInstallers doc installers → c < class_count doc
     → rows_of_member installers w b c k
-      ≡ (if acts_in doc c (takes w) k b then owned c (ref.Member b.item) ∷ [] else [])
+    ≡ (if acts_in doc c (takes w) k b then owned c (ref.Member b.item) ∷ [] else [])
 member_row doc installers w b c k are lt =
     let f : ℕ → List Owned = λ x. row x b.key (owned x (ref.Member b.item)) c k in
     let rows = ap (λ (l : List ℕ). flat_map f l) (are.each b.module)
-        ∙ pick (λ x. is_installed doc x b.module) f c (λ x e. row_elsewhere x b.key (owned x (ref.Member b.item)) c k e) (class_count doc) lt
-        ∙ ap (λ (l : List Owned). if is_installed doc c b.module then l else []) (row_here b.key (owned c (ref.Member b.item)) c k) in
+    ∙ pick (λ x. is_installed doc x b.module) f c (λ x e. row_elsewhere x b.key (owned x (ref.Member b.item)) c k e) (class_count doc) lt
+    ∙ ap (λ (l : List Owned). if is_installed doc c b.module then l else []) (row_here b.key (owned c (ref.Member b.item)) c k) in
     ap (λ (l : List Owned). if takes w b.kind then l else []) rows
     ∙ tests (takes w b.kind) (same_key b.key k) (is_installed doc c b.module) (owned c (ref.Member b.item))
 
@@ -60,7 +60,7 @@ members_are doc installers w tables count bs are size all holds = record {
       holds.each c k (rw size lt)
       ∙ ap (λ (l : List Bind). flat_map (λ b. rows_of_member installers w b c k) l) all
       ∙ flat_map_same (λ b. rows_of_member installers w b c k)
-        (λ b. if acts_in doc c (takes w) k b then owned c (ref.Member b.item) ∷ [] else []) (bindings doc)
-        (λ b h. member_row doc installers w b c k are lt)
+      (λ b. if acts_in doc c (takes w) k b then owned c (ref.Member b.item) ∷ [] else []) (bindings doc)
+      (λ b h. member_row doc installers w b c k are lt)
       ∙ filter_as (acts_in doc c (takes w) k) (λ b. owned c (ref.Member b.item)) (bindings doc);
 }

@@ -72,8 +72,8 @@ chain_is doc classes c e lt =
     ap (λ (n : ℕ). reverse (c ∷ walk (parent_at classes) n (parent_at classes c))) (count_is doc classes e)
     ∙ ap (λ (o : Option ℕ). reverse (c ∷ walk (parent_at classes) (class_count doc) o)) (parent_is doc classes c e lt)
     ∙ ap (λ (l : List ℕ). reverse (c ∷ l)) (walk_same (parent_at classes) (parent_of doc) (class_count doc)
-      (λ x h. parent_is doc classes x e h) (λ x p h. parent_below doc x p h) (class_count doc) (parent_of doc c)
-      (λ p h. parent_below doc c p h))
+    (λ x h. parent_is doc classes x e h) (λ x p h. parent_below doc x p h) (class_count doc) (parent_of doc c)
+    (λ p h. parent_below doc c p h))
 
 pub chains_are : (doc : Doc) (classes : List Class) (chains : List (List ℕ)) → classes ≡ component_classes doc
     → chains ≡ map (root_first_in classes) (range_with_len 0 (length classes)) → HaveChains doc chains
@@ -137,35 +137,35 @@ pub acts_found : (doc : Doc) (w : Wanted) (tables : List Rows) (c : ℕ) (k : Ke
 acts_found doc w tables c k have lt =
     any_same (has tables k) (λ o. list_any (acts_in doc o (takes w) k) (bindings doc)) (root_first doc c)
     (λ o h. ap (λ (l : List Owned). not (is_empty l)) (have.each o k (above_small doc c o lt h))
-      ∙ some_pass (λ b. owned o (ref.Member b.item)) (acts_in doc o (takes w) k) (bindings doc))
+    ∙ some_pass (λ b. owned o (ref.Member b.item)) (acts_in doc o (takes w) k) (bindings doc))
     ∙ any_reverse (λ o. list_any (acts_in doc o (takes w) k) (bindings doc)) (chain doc c)
 
 -- ---- first statements
 
 heads : (g : ℕ → List Bind) (chain : List ℕ)
     → option_and_then (λ o. member_of o.binding) (slice_get (flat_map (λ o. map (λ b. owned o (ref.Member b.item)) (g o)) chain) 0)
-      ≡ option_map (λ b. b.item) (slice_get (flat_map g chain) 0)
+    ≡ option_map (λ b. b.item) (slice_get (flat_map g chain) 0)
 heads g [] = refl
 heads g (c ∷ cs) = by (g c) (heads g cs)
   where
     by : (bs : List Bind)
         → option_and_then (λ o. member_of o.binding) (slice_get (flat_map (λ o. map (λ b. owned o (ref.Member b.item)) (g o)) cs) 0)
-          ≡ option_map (λ b. b.item) (slice_get (flat_map g cs) 0)
+        ≡ option_map (λ b. b.item) (slice_get (flat_map g cs) 0)
         → option_and_then (λ o. member_of o.binding) (slice_get (map (λ b. owned c (ref.Member b.item)) bs ++ flat_map (λ o. map (λ b. owned o (ref.Member b.item)) (g o)) cs) 0)
-          ≡ option_map (λ b. b.item) (slice_get (bs ++ flat_map g cs) 0)
+        ≡ option_map (λ b. b.item) (slice_get (bs ++ flat_map g cs) 0)
     by [] e = e
     by (b ∷ bs) e = refl
 
 first_found : (doc : Doc) (w : Wanted) (tables : List Rows) (c : ℕ) (k : Key) → HaveMembers doc w tables
     → c < class_count doc
     → first_item tables k (root_first doc c)
-      ≡ option_map (λ b. b.item) (slice_get (flat_map (λ o. filter (acts_in doc o (takes w) k) (bindings doc)) (root_first doc c)) 0)
+    ≡ option_map (λ b. b.item) (slice_get (flat_map (λ o. filter (acts_in doc o (takes w) k) (bindings doc)) (root_first doc c)) 0)
 first_found doc w tables c k have lt =
     ap (λ (l : List Owned). option_and_then (λ o. member_of o.binding) (slice_get l 0))
     (flat_map_same (λ o. of_class o k tables)
-      (λ o. map (λ b. owned o (ref.Member b.item)) (filter (acts_in doc o (takes w) k) (bindings doc)))
-      (root_first doc c)
-      (λ o h. have.each o k (above_small doc c o lt h)))
+    (λ o. map (λ b. owned o (ref.Member b.item)) (filter (acts_in doc o (takes w) k) (bindings doc)))
+    (root_first doc c)
+    (λ o h. have.each o k (above_small doc c o lt h)))
     ∙ heads (λ o. filter (acts_in doc o (takes w) k) (bindings doc)) (root_first doc c)
 
 -- the table in which the first statement of a key is looked for
@@ -176,7 +176,7 @@ first_of_core : (doc : Doc) (optionals openings : List Rows) (c : ℕ) (q : Opti
     → HaveMembers doc wanted.Optional optionals → HaveMembers doc wanted.Opening openings
     → c < class_count doc
     → first_item (table_of (is_optional x) optionals openings) (opening_key (record { qualifier = q; core = x })) (root_first doc c)
-      ≡ first_statement doc c (record { qualifier = q; core = x })
+    ≡ first_statement doc c (record { qualifier = q; core = x })
 first_of_core doc optionals openings c q (core.One b) has_optionals has_openings lt =
     first_found doc wanted.Opening openings c _ has_openings lt
 first_of_core doc optionals openings c q (core.Set b i) has_optionals has_openings lt =
@@ -190,7 +190,7 @@ pub first_is : (doc : Doc) (optionals openings : List Rows) (c : ℕ) (k : Key)
     → HaveMembers doc wanted.Optional optionals → HaveMembers doc wanted.Opening openings
     → c < class_count doc
     → first_item (table_of (is_optional k.core) optionals openings) (opening_key k) (root_first doc c)
-      ≡ first_statement doc c k
+    ≡ first_statement doc c k
 first_is doc optionals openings c k = first_of_core doc optionals openings c k.qualifier k.core
 
 -- ---- contributions
@@ -202,7 +202,7 @@ contributions_are doc c k e = by k.qualifier k.core e
   where
     by : (q : Option Qualifier) (x : Core) → is_optional x ≡ false
         → contributions_to doc c (opening_key (record { qualifier = q; core = x }))
-          ≡ contributions doc c (record { qualifier = q; core = x })
+        ≡ contributions doc c (record { qualifier = q; core = x })
     by q (core.One b) e = refl
     by q (core.Set b i) e = refl
     by q (core.Map m b i) e = refl
@@ -215,7 +215,7 @@ contributions_of_optional doc c k e = by k.qualifier k.core e
   where
     by : (q : Option Qualifier) (x : Core) → is_optional x ≡ true
         → contributions_to doc c (record { qualifier = q; core = x })
-          ≡ contributions doc c (record { qualifier = q; core = x })
+        ≡ contributions doc c (record { qualifier = q; core = x })
     by q (core.One b) e = absurd (false≢true e)
     by q (core.Set b i) e = absurd (false≢true e)
     by q (core.Map m b i) e = absurd (false≢true e)
@@ -243,7 +243,7 @@ pub carrier_is : (doc : Doc) (classes : List Class) (c : ℕ) (scope : Bytes) �
 carrier_is doc classes c scope e lt =
     ap (λ (l : List ℕ). find_first (λ o. is_among scope (scopes_at classes o)) l) (reverse-reverse (chain doc c))
     ∙ find_same (λ o. is_among scope (scopes_at classes o)) (carries doc scope) (chain doc c)
-      (λ o h. ap (is_among scope) (scopes_are doc classes o e (chain_small doc c o lt h)))
+    (λ o h. ap (is_among scope) (scopes_are doc classes o e (chain_small doc c o lt h)))
 
 -- ---- what is found
 

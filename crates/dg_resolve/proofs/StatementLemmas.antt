@@ -63,7 +63,7 @@ module _ (p : Statement → Bool) (m c : ℕ) where
   -- the first may be left out where it isn't the one
   passed : (b : Bool) (s : Statement) (ss : List Statement) → (b ≡ true → s.index ≡ m → ⊥)
       → flat_map (λ k. if m == k then c ∷ [] else []) (map (λ s. s.index) (cond b (s ∷ filter p ss) (filter p ss)))
-        ≡ found ss
+      ≡ found ss
   passed false s ss ne = refl
   passed true s ss ne =
       ap (λ (t : Bool). (if t then c ∷ [] else []) ++ found ss)
@@ -88,13 +88,13 @@ module _ (p : Statement → Bool) (m c : ℕ) where
             ap (λ (b : Bool). flat_map (λ k. if m == k then c ∷ [] else []) (map (λ s. s.index) (cond b (t ∷ filter p ts) (filter p ts)))) (ap p same ∙ passes)
             ∙ ap (λ (b : Bool). (if b then c ∷ [] else []) ++ found ts) (eq-eqb m t.index (sym here))
             ∙ ap (λ (l : List ℕ). c ∷ l) (found_none ts (λ u r b f.
-              (let later : suc t.index ≤ u.index = at_least (suc t.index) ts u rises.1 r in omega (arith, here, f))))
-          )
+            (let later : suc t.index ≤ u.index = at_least (suc t.index) ts u rises.1 r in omega (arith, here, f))))
+            )
         | inr r ↦ (
             let later : suc t.index ≤ s.index = at_least (suc t.index) ts s rises.1 r in
             passed (p t) t ts (λ b f. omega (arith, e, f))
             ∙ found_one (suc t.index) ts s rises.1 r passes e
-          )
+            )
       ]
 
 -- ---- installed modules are modules
@@ -155,7 +155,7 @@ seed_is doc c m h =
           let g = out_map (λ (s : Statement). s.index) _ m f.0 in
           let s = out_filter (λ (s : Statement). is_number c (option_and_then (class_named doc) (install_in s.item))) (statements doc) g.0 g.1 in
           (g.0, s.0, g.2, installs g.0.item (class_named doc) c s.1)
-        )
+          )
     ]
 
 reached_is : (doc : Doc) (c m : ℕ) → Reached doc c m → IsModule doc m
@@ -172,7 +172,7 @@ installed_is doc c m e = reached_is doc c m ((reached_by_short_walks doc c m).0 
 -- a class once, where the module is installed in it
 pub installed_once : (doc : Doc) (c m : ℕ)
     → flat_map (λ k. if m == k then c ∷ [] else []) (installed doc c)
-      ≡ (if is_installed doc c m then c ∷ [] else [])
+    ≡ (if is_installed doc c m then c ∷ [] else [])
 unfolding installed
 installed_once doc c m = by (is_installed doc c m) refl
   where
@@ -200,7 +200,7 @@ installers_are doc classes table e are = record {
       are.each m
       ∙ flat_map_same (among_modules classes m) (λ c. if is_installed doc c m then c ∷ [] else []) (range_with_len 0 (class_count doc))
       (λ c h.
-        (ap (λ (ms : List ℕ). flat_map (λ k. if m == k then c ∷ [] else []) ms)
-        (modules_are doc classes c e (out_range (class_count doc) c h))
-        ∙ installed_once doc c m));
+      (ap (λ (ms : List ℕ). flat_map (λ k. if m == k then c ∷ [] else []) ms)
+      (modules_are doc classes c e (out_range (class_count doc) c h))
+      ∙ installed_once doc c m));
 }

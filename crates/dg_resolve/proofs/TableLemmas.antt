@@ -71,7 +71,7 @@ module _ {K X V : Type 0} (same : K → K → Bool) (decides : (a b : K) → Dec
     where
       by : (b : Bool) → option_map value (lookup test es) ≡ lookup test (rows es)
           → option_map value (cond b (Some e.1) (lookup test es))
-            ≡ cond b (Some (value e.1)) (lookup test (rows es))
+          ≡ cond b (Some (value e.1)) (lookup test (rows es))
       by true rest = refl
       by false rest = rest
 

@@ -58,7 +58,7 @@ pub record AreModules (classes : List Class) (count : ℕ) (table : Numbers) : T
 pub record AreInstallers (doc : Doc) (table : Numbers) : Type 0 where
   pub each : (m : ℕ) → of_number m table
       ≡ flat_map (λ c. if is_installed doc c m then c ∷ [] else [])
-        (range_with_len 0 (class_count doc))
+      (range_with_len 0 (class_count doc))
 
 -- ---- members
 

@@ -84,12 +84,7 @@ fn first_opening(tables: &ClassTables, chain: &[u32], key: &Key) -> Option<u32>
 
 /// The item of the first binding under the opening key of this one. Where there is no memory for
 /// that key, it goes over all keys of the classes.
-pub fn first_under(
-    alloc: Global,
-    tables: &ClassTables,
-    chain: &[u32],
-    key: &Key,
-) -> Option<u32>
+pub fn first_under(alloc: Global, tables: &ClassTables, chain: &[u32], key: &Key) -> Option<u32>
     ensures exact { result ≡ known.first_item tables.now (keys.opening_key key.now) chain.now }
 {
     match opening_key(alloc, key) {

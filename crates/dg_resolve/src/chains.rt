@@ -47,7 +47,12 @@ fn chain(alloc: Global, classes: &[Class], class: u32) -> Result<Vec<u32>, NoMem
 {
     let mut found = Vec::new(alloc);
     found.push(class)?;
-    push_ancestors(&mut found, classes, parent_at(classes, class), classes.len())?;
+    push_ancestors(
+        &mut found,
+        classes,
+        parent_at(classes, class),
+        classes.len(),
+    )?;
     found.reverse();
     Ok(found)
 }

@@ -36,7 +36,14 @@ fn add_default(
         None => Ok(()),
         Some(key) => {
             let binding = BindRef::Default;
-            tables.add(class, &key, Owned { owner: class, binding })
+            tables.add(
+                class,
+                &key,
+                Owned {
+                    owner: class,
+                    binding,
+                },
+            )
         }
     }
 }
@@ -79,11 +86,7 @@ fn add_hilt(alloc: Global, tables: &mut ClassTables, classes: &[Class]) -> Resul
 }
 
 /// Adds what a class is exposed to.
-fn add_entries(
-    tables: &mut ClassTables,
-    class: u32,
-    entries: &[Exposed],
-) -> Result<(), NoMemory>
+fn add_entries(tables: &mut ClassTables, class: u32, entries: &[Exposed]) -> Result<(), NoMemory>
     ensures exact { OnOk result (spec.Grows (explicit.rows_of_entries class entries.now)
         tables.old tables.new) }
 {
@@ -92,7 +95,14 @@ fn add_entries(
             dep: exposed.dep,
             entry: exposed.entry,
         };
-        tables.add(class, &exposed.key, Owned { owner: class, binding })?;
+        tables.add(
+            class,
+            &exposed.key,
+            Owned {
+                owner: class,
+                binding,
+            },
+        )?;
     }
     Ok(())
 }
@@ -138,7 +148,14 @@ fn add_arguments(
             return Err(NoMemory);
         };
         let binding = BindRef::Arg(number);
-        tables.add(*class, key, Owned { owner: *class, binding })?;
+        tables.add(
+            *class,
+            key,
+            Owned {
+                owner: *class,
+                binding,
+            },
+        )?;
     }
     Ok(())
 }
@@ -239,7 +256,7 @@ fn add_statement(
 ) -> Result<usize, NoMemory>
     ensures exact { OnOk result (spec.Grows
         (explicit.rows_of_statement sources.entry.headed.now sources.entry.installers.now lines.now
-            sources.entry.bindings.now sources.entry.exposed.now place statement.now)
+        sources.entry.bindings.now sources.entry.exposed.now place statement.now)
         tables.old tables.new) }
     ensures place { IfOk result (λ next. next ≡ place
         + length (option_to_list (explicit.next_at sources.entry.bindings.now place statement.now.index))) }

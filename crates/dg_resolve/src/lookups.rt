@@ -47,8 +47,12 @@ impl<'a> Model for Lookups<'a> {
 
     ghost Value = { Doc };
 
-    ghost coded = { Prim.hlevel (codes, shape.the_row.coded, expr.the_row.coded,
-        tree.the_row.coded) };
+    ghost coded = { Prim.hlevel (
+      codes,
+      shape.the_row.coded,
+      expr.the_row.coded,
+      tree.the_row.coded,
+    ) };
 
     ghost view = { λ l. l.doc.now };
 
@@ -62,11 +66,13 @@ fn injected_scope(doc: &Doc, index: u32) -> Option<&Option<Name>>
         ≡ option_and_then lookup.injected_scope (item_at doc.now index) }
 {
     match doc.items.get(index as usize) {
-        Some(Item::Class {
-            inject: true,
-            scope,
-            ..
-        }) => Some(scope),
+        Some(
+            Item::Class {
+                inject: true,
+                scope,
+                ..
+            },
+        ) => Some(scope),
         _ => None,
     }
 }
@@ -108,7 +114,12 @@ impl<'a> Lookups<'a> {
         chain_at(&self.tables.chains, class)
     }
 
-    fn explicit_in_chain(&self, alloc: Global, class: u32, key: &Key) -> Result<Vec<Owned>, NoMemory>
+    fn explicit_in_chain(
+        &self,
+        alloc: Global,
+        class: u32,
+        key: &Key,
+    ) -> Result<Vec<Owned>, NoMemory>
         requires { class < class_count self.now }
         ensures exact { IfOk result (λ found.
             found.items ≡ lookup.explicit_in_chain self.now class key.now) }
@@ -143,16 +154,16 @@ impl<'a> Lookups<'a> {
         ensures exact { IfOk result (λ owned.
             owned.items ≡ known.contributions_to self.now class plain.now) }
     {
-        in_chain(alloc, &self.tables.members.contributions, self.chain(class), plain)
+        in_chain(
+            alloc,
+            &self.tables.members.contributions,
+            self.chain(class),
+            plain,
+        )
     }
 
     /// The contributions to a set or map, where it has any or is declared.
-    fn multi(
-        &self,
-        alloc: Global,
-        class: u32,
-        key: &Key,
-    ) -> Result<Option<Items<Owned>>, NoMemory>
+    fn multi(&self, alloc: Global, class: u32, key: &Key) -> Result<Option<Items<Owned>>, NoMemory>
         requires { class < class_count self.now }
         ensures exact { IfOk result (λ owned. owned ≡ known.opened
             (lookup.acts_in_chain self.now class lookup.is_declaration (keys.opening_key key.now))
@@ -209,12 +220,7 @@ impl<'a> Lookups<'a> {
 
     /// What a class finds for a key that has no explicit binding.
     #[tactic(auto, using(crate::proofs::FoundLemmas::one_found, crate::proofs::FoundLemmas::set_found, crate::proofs::FoundLemmas::map_found, crate::proofs::FoundLemmas::optional_found))]
-    fn find_without_explicit(
-        &self,
-        alloc: Global,
-        class: u32,
-        key: &Key,
-    ) -> Result<Found, NoMemory>
+    fn find_without_explicit(&self, alloc: Global, class: u32, key: &Key) -> Result<Found, NoMemory>
         requires { class < class_count self.now }
         ensures exact { IfOk result (λ found.
             found ≡ lookup.find_without_explicit self.now class key.now) }

@@ -71,7 +71,13 @@ fn a_child_sees_the_contributions_of_its_parent_first(rt: HostRuntime) -> Result
     bindings.push(contribution(alloc, 11, 10)?)?;
     bindings.push(contribution(alloc, 21, 20)?)?;
     bindings.push(contribution(alloc, 22, 20)?)?;
-    let tables = members(alloc, 2, &installers, Wanted::Contribution, bindings.as_slice())?;
+    let tables = members(
+        alloc,
+        2,
+        &installers,
+        Wanted::Contribution,
+        bindings.as_slice(),
+    )?;
     let asked = set(alloc, b"Foo", Inner::Produced)?;
     let key = opening_key(alloc, &asked)?;
     assert!(rt; is_opening_key(&key, &asked));

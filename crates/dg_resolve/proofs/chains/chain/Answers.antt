@@ -11,6 +11,6 @@ returns c =
     record {
       exact = c.reverse.ensures.items ∙ ap reverse (c.in_ok-push_ancestors.ensures.exact
           ∙ ap (λ (l : List ℕ). l ++ walk (parent_at classes) (length classes) c.parent_at.result)
-            (c.in_ok-push.ensures.items ∙ ap (λ (l : List ℕ). l ++ class ∷ []) c.new-found.ensures.items)
+          (c.in_ok-push.ensures.items ∙ ap (λ (l : List ℕ). l ++ class ∷ []) c.new-found.ensures.items)
           ∙ ap (λ (o : Option ℕ). class ∷ walk (parent_at classes) (length classes) o) c.parent_at.ensures.exact);
     }

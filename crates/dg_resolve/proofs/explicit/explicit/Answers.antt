@@ -38,7 +38,7 @@ returns c =
     let doc = c.args.names.now in
     let i = c.loop-statement.statement-index in
     let done : i ≡ length (statements doc) =
-        omega (arith, c.loop-statement-test.false, c.loop-statement.auto.statement-index-end, ap length c.statements-statements.ensures.exact) in
+    omega (arith, c.loop-statement-test.false, c.loop-statement.auto.statement-index-end, ap length c.statements-statements.ensures.exact) in
     record {
       exact = pass_ends doc c.args.sources.headed.now c.args.sources.bindings.now i c.loop-statement.place c.loop-statement.lines c.loop-statement.made done c.loop-statement.invariant;
     }

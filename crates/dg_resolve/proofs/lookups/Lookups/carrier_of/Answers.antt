@@ -14,5 +14,5 @@ returns c =
           ∙ ap (λ (z : Bytes). carrier classes z c.chain.result.now) c.as_slice.ensures.exact
           ∙ ap (carrier classes c.args.scope.now) c.chain.ensures.exact
           ∙ carrier_is c.args.self.now classes c.args.class c.args.scope.now
-            (c.self.invariant.classes ∙ ap component_classes c.self.view_is) c.requires;
+          (c.self.invariant.classes ∙ ap component_classes c.self.view_is) c.requires;
     }

@@ -15,9 +15,9 @@ returns-then-is_opening_key c =
     record {
       exact = c.as_slice.ensures.value
           ∙ sym (ap (λ (o : Option (List Owned)). unwrap_or o [])
-            (sym (lookup-rows same_key key_decides (λ g. g.items) (same_key key) entries)
-            ∙ ap (option_map (λ g. g.items)) (found_here (same_key key) entries c.loop-place.place (c.in-Some.opening.now, c.in-Some.group.now) c.loop-place.invariant
-              c.in-Some.ensures.entry (sym c.is_opening_key.ensures.exact ∙ c.if-is_opening_key.true))))
+          (sym (lookup-rows same_key key_decides (λ g. g.items) (same_key key) entries)
+          ∙ ap (option_map (λ g. g.items)) (found_here (same_key key) entries c.loop-place.place (c.in-Some.opening.now, c.in-Some.group.now) c.loop-place.invariant
+          c.in-Some.ensures.entry (sym c.is_opening_key.ensures.exact ∙ c.if-is_opening_key.true))))
           ∙ ap (of_key key) c.self.view_is;
     }
 
