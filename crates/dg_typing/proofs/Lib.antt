@@ -1,0 +1,5 @@
+pub mod NamesWanted
+pub mod NamesJudged
+pub mod NamesLines
+pub mod NamesRepeated
+pub mod NamesFolds

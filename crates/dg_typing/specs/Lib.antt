@@ -1,0 +1,3 @@
+pub mod NamesWanted
+pub mod NamesJudged
+pub mod NamesLines
