@@ -1,3 +1,9 @@
+pub mod TypeEquations
+pub mod TypeExpressions
+pub mod TypeArguments
+pub mod TypePlaces
+pub mod TypeTrees
+pub mod TypeRules
 pub mod NamesWanted
 pub mod NamesJudged
 pub mod NamesLines

@@ -1,6 +1,6 @@
 //! What a line breaks.
 
-ghost use Rattle.std.specs.Prelude.{◌≡◌, ◌++◌, ◌∷◌, [], IfOk, OnOk};
+ghost use Rattle.std.specs.Prelude.{◌≡◌, ◌++◌, ◌∷◌, [], IfOk, OnOk, None};
 ghost use Rattle.dg_decl.specs.Sites as sites;
 ghost use Rattle.dg_decl.specs.Stages.Components as spec;
 
@@ -31,6 +31,21 @@ pub fn at_line(
         rule,
         site: site_of_line(alloc, s.line)?,
         detail: Some(Text::from_vec(detail)),
+    })
+}
+
+/// A rule that a line breaks.
+pub fn of_line(alloc: Global, rule: Rule, s: &Statement<'_>) -> Result<Violation, NoMemory>
+    ensures exact { IfOk result (λ v. v ≡ record {
+      rule = rule;
+      site = sites.site_of_line s.now.line;
+      detail = None;
+    }) }
+{
+    Ok(Violation {
+        rule,
+        site: site_of_line(alloc, s.line)?,
+        detail: None,
     })
 }
 
