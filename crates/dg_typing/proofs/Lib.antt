@@ -4,3 +4,8 @@ pub mod TypeArguments
 pub mod TypePlaces
 pub mod TypeTrees
 pub mod TypeRules
+pub mod NamesWanted
+pub mod NamesJudged
+pub mod NamesLines
+pub mod NamesRepeated
+pub mod NamesFolds

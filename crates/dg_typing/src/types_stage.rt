@@ -7,7 +7,6 @@ mod rules;
 mod shapes;
 mod trees;
 mod typing;
-mod violation;
 
 ghost use Rattle.std.specs.Prelude.{◌≡◌, IfOk};
 ghost use Rattle.dg_decl.specs.Bounds.{IsBounded};

@@ -11,7 +11,7 @@ use super::given::Given;
 use super::places::{Takes, is_allowed, is_base_use, is_multi_use, is_plain_use, is_result_use};
 use super::trees::tree_checks;
 use super::typing::checks;
-use super::violation::{at_line, of_line};
+use crate::violation::{at_line, of_line};
 use dg_decl::{Item, Mark, Param, Rule, Violation};
 use dg_names::{Names, Statement};
 use dg_types::{Name, NoMemory, Shape, TypeUse, shape_text};

@@ -1,12 +1,12 @@
 //! What a line breaks.
 
-ghost use Rattle.std.specs.Prelude.{◌≡◌, IfOk, None};
+ghost use Rattle.std.specs.Prelude.{◌≡◌, ◌++◌, ◌∷◌, [], IfOk, OnOk, None};
 ghost use Rattle.dg_decl.specs.Sites as sites;
 ghost use Rattle.dg_decl.specs.Stages.Components as spec;
 
 use dg_decl::{Rule, Violation};
 use dg_names::Statement;
-use dg_types::{NoMemory, Text};
+use dg_types::{Name, NoMemory, Text};
 use std::alloc::Global;
 
 /// The site of a line.
@@ -47,4 +47,20 @@ pub fn of_line(alloc: Global, rule: Rule, s: &Statement<'_>) -> Result<Violation
         site: site_of_line(alloc, s.line)?,
         detail: None,
     })
+}
+
+/// Adds a rule that a line breaks by a name.
+pub fn push_at_line(
+    alloc: Global,
+    rule: Rule,
+    s: &Statement<'_>,
+    name: &Name,
+    out: &mut Vec<Violation>,
+) -> Result<(), NoMemory>
+    ensures exact { OnOk result
+        (out.new.items ≡ out.old.items ++ spec.at_line rule s.now name.now ∷ []) }
+{
+    let detail = Vec::from_slice(alloc, name.as_slice())?;
+    out.push(at_line(alloc, rule, s, detail)?)?;
+    Ok(())
 }
