@@ -28,7 +28,8 @@ linked_by doc s = of_item s.item
 
 -- the number of the instance of a class to which the first such line ties the instance of a name
 unfoldable pub linked : Doc → Bytes → ℕ → Option ℕ
-linked doc from class = option_and_then (linked_by doc) (find (ties doc from class) (statements doc))
+linked doc from class = option_and_then (linked_by doc) (find (ties doc from class) (statements
+    doc))
 
 -- the instances to which that of an `open` line is tied, by dependency of its class
 unfoldable pub links_of_line : Doc → Statement → List ℕ

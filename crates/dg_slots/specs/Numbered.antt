@@ -41,7 +41,8 @@ class_lines doc = filter (λ s. is_class s.item) (statements doc)
 
 -- the number of the class that the item of this index declares: six of Hilt's come first
 abbrev pub number_of_class_item : Doc → ℕ → Option ℕ
-number_of_class_item doc i = option_map (λ k. 6 + k) (position (λ s. s.index == i) (class_lines doc))
+number_of_class_item doc i = option_map (λ k. 6 + k) (position (λ s. s.index == i) (class_lines
+    doc))
 
 -- The number of a class: 0 to 5 for Application, Service, SavedStateHandle, Activity, Fragment and
 -- View, and from 6 on by the `class` lines in order.

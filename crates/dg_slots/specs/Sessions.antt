@@ -73,7 +73,7 @@ insts_of doc = filter_map (inst_of doc) (statements doc)
 -- an entry has this name
 abbrev pub is_entry_called : Doc → Bytes → ℕ → Bool
 is_entry_called doc n entry =
-    option_map_or (bytes_eq n) (option_and_then member_name (item_at doc entry)) false
+    option_map_or (λ m. bytes_eq m n) (option_and_then member_name (item_at doc entry)) false
 
 -- the place of the entry of this name among the entries of a class
 abbrev pub entry_place : Doc → ℕ → Bytes → Option ℕ
