@@ -46,8 +46,16 @@ pub in_produced : (t : Shape) → in_shape (shape.Produced t) ≡ in_shape t
 in_produced t = shape-Produced named_at t
 
 pub ruleset shapes = (
-  in_text, in_int, in_named, in_set, in_map, in_optional, in_provider, in_lazy, in_producer,
-  in_produced
+  in_text,
+  in_int,
+  in_named,
+  in_set,
+  in_map,
+  in_optional,
+  in_provider,
+  in_lazy,
+  in_producer,
+  in_produced,
 )
 
 pub expr_text : (t : Bytes) → in_expr (expr.Text t) ≡ []
@@ -87,8 +95,16 @@ pub expr_or_else : (p : Bytes) (e : Expr)
 expr_or_else p e = expr-OrElse in_cond_at in_expr_at p e
 
 pub ruleset exprs = (
-  expr_text, expr_int, expr_param, expr_new, expr_field, expr_sum, expr_if, expr_call,
-  expr_by_name, expr_or_else
+  expr_text,
+  expr_int,
+  expr_param,
+  expr_new,
+  expr_field,
+  expr_sum,
+  expr_if,
+  expr_call,
+  expr_by_name,
+  expr_or_else,
 )
 
 pub cond_equal : (a b : Expr) → in_cond (cond.Equal a b) ≡ in_expr a ++ in_expr b

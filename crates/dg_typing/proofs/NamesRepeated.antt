@@ -40,7 +40,7 @@ none_later : (p : Statement → Bool) (doc : Doc) (i k : ℕ) (b : Option ℕ) (
 none_later p doc i k b [] le = refl
 none_later p doc i k b (x ∷ xs) le =
     let h : Statement =
-        record { index = k; line = slice_index doc.lines k; block = b; item = x } in
+    record { index = k; line = slice_index doc.lines k; block = b; item = x } in
     ap (λ (t : Bool). (t && p h) || list_any (λ e. nat_lt e.index i && p e)
     (statements_from doc (suc k) (open_behind b k x) xs)) (le-ltb k i le)
     ∙ none_later p doc i (suc k) (open_behind b k x) xs (omega (arith, le))
@@ -63,7 +63,7 @@ first_before : (p : Statement → Bool) (doc : Doc) (i k : ℕ) (b : Option ℕ)
 first_before p doc i k b [] = refl
 first_before p doc i k b (x ∷ xs) =
     let h : Statement =
-        record { index = k; line = slice_index doc.lines k; block = b; item = x } in
+    record { index = k; line = slice_index doc.lines k; block = b; item = x } in
     let block = open_behind b k x in
     either (nat_lt k i) (p h)
     (list_any (λ e. nat_lt e.index i && p e) (statements_from doc (suc k) block xs)) k i h
@@ -91,7 +91,7 @@ before_first p doc zero k b xs =
 before_first p doc (suc i) k b [] = refl
 before_first p doc (suc i) k b (x ∷ xs) =
     let h : Statement =
-        record { index = k; line = slice_index doc.lines k; block = b; item = x } in
+    record { index = k; line = slice_index doc.lines k; block = b; item = x } in
     let block = open_behind b k x in
     let below : k < k + suc i = omega arith in
     let next : k + suc i ≡ suc k + i = omega arith in
@@ -187,8 +187,8 @@ pub repeats_next : (s : Statement) (params : List Param) (place : ℕ) (p : Para
 repeats_next s params place p again old mid new lt is tested is_new before =
     let next : place + 1 ≡ suc place = omega arith in
     let taken : take (place + 1) params ≡ take place params ++ p ∷ [] =
-        ap (λ (k : ℕ). take k params) next ∙ take-suc params place p lt
-        ∙ ap (λ (q : Param). take place params ++ q ∷ []) (sym is) in
+    ap (λ (k : ℕ). take k params) next ∙ take-suc params place p lt
+    ∙ ap (λ (q : Param). take place params ++ q ∷ []) (sym is) in
     let left : drop place params ≡ p ∷ drop (place + 1) params = at_place params place p lt is in
     record {
       earlier = p.name ∷ before.earlier;

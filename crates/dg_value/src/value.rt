@@ -16,15 +16,24 @@ pub enum Value {
         fields: Items<Value>,
     },
     /// The content of a cell, which isn't looked at yet.
-    Held { inst: u32, slot: u32 },
+    Held {
+        inst: u32,
+        slot: u32,
+    },
     /// The elements in order, no two of them equal; the entries of a `Set<Produced<B>>` may be.
     Set(Items<Value>),
     /// The entries in order.
     Map(Items<(MapKeyVal, Value)>),
     /// `Provider` or `Producer` of what this slot gives in this instance.
-    Provider { inst: u32, slot: u32 },
+    Provider {
+        inst: u32,
+        slot: u32,
+    },
     /// `Provider` of a `Lazy`.
-    ProviderLazy { inst: u32, slot: u32 },
+    ProviderLazy {
+        inst: u32,
+        slot: u32,
+    },
     /// A `Lazy`, which keeps one value for the place at which it was made.
     Lazy {
         inst: u32,

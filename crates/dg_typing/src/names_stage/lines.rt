@@ -25,21 +25,47 @@ fn outer_mentions(
         ++ judged names.now s.now (lines.outer_mentions s.now.item)) }
 {
     match s.item {
-        Item::Class { scope, params, interfaces, .. } => {
+        Item::Class {
+            scope,
+            params,
+            interfaces,
+            ..
+        } => {
             of_some(alloc, names, s, Wanted::Scope, scope, out)?;
             in_params(alloc, names, s, params.as_slice(), out)?;
-            of_each(alloc, names, s, Wanted::Interface, interfaces.as_slice(), out)
+            of_each(
+                alloc,
+                names,
+                s,
+                Wanted::Interface,
+                interfaces.as_slice(),
+                out,
+            )
         }
-        Item::Module { install, includes, .. } => {
+        Item::Module {
+            install,
+            includes,
+            ..
+        } => {
             of_some(alloc, names, s, Wanted::InstallTarget, install, out)?;
             of_each(alloc, names, s, Wanted::Module, includes.as_slice(), out)
         }
-        Item::TestModule { install, replaces, includes, .. } => {
+        Item::TestModule {
+            install,
+            replaces,
+            includes,
+            ..
+        } => {
             mention(alloc, names, s, Wanted::InstallTarget, install, out)?;
             of_each(alloc, names, s, Wanted::Module, replaces.as_slice(), out)?;
             of_each(alloc, names, s, Wanted::Module, includes.as_slice(), out)
         }
-        Item::Component { scopes, parent, modules, .. } => {
+        Item::Component {
+            scopes,
+            parent,
+            modules,
+            ..
+        } => {
             of_each(alloc, names, s, Wanted::Scope, scopes.as_slice(), out)?;
             of_some(alloc, names, s, Wanted::Component, parent, out)?;
             of_each(alloc, names, s, Wanted::Module, modules.as_slice(), out)
@@ -71,18 +97,34 @@ fn block_mentions(
         ++ judged names.now s.now (lines.block_mentions s.now.item)) }
 {
     match s.item {
-        Item::Provides { scope, params, result, body, .. } => {
+        Item::Provides {
+            scope,
+            params,
+            result,
+            body,
+            ..
+        } => {
             of_some(alloc, names, s, Wanted::Scope, scope, out)?;
             in_params(alloc, names, s, params.as_slice(), out)?;
             in_use(alloc, names, s, result, out)?;
             in_expr(alloc, names, s, body, out)
         }
-        Item::Binds { scope, param, result, .. } => {
+        Item::Binds {
+            scope,
+            param,
+            result,
+            ..
+        } => {
             of_some(alloc, names, s, Wanted::Scope, scope, out)?;
             in_use(alloc, names, s, &param.shape, out)?;
             in_use(alloc, names, s, result, out)
         }
-        Item::Produces { params, result, body, .. } => {
+        Item::Produces {
+            params,
+            result,
+            body,
+            ..
+        } => {
             in_params(alloc, names, s, params.as_slice(), out)?;
             in_use(alloc, names, s, result, out)?;
             in_tree(alloc, names, s, body, out)
