@@ -3,6 +3,10 @@
 
 mod document;
 mod fault;
+mod lexemes;
+mod parts;
+mod split;
+mod types;
 
 pub use document::read_doc;
 pub use fault::ReadDocFault;

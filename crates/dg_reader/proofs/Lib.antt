@@ -1,0 +1,3 @@
+pub mod TypeSteps
+pub mod ListLemmas
+pub mod SplitLemmas

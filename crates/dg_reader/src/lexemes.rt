@@ -1,0 +1,120 @@
+//! The tokens of a line, one after another.
+
+ghost use Rattle.std.specs.Prelude.{◌≡◌, ◌≤◌, ◌∷◌, [], Some, drop, take, length, codes, IfErr, OnErr};
+ghost use Rattle.std.specs.List.{prefix_len};
+ghost use Rattle.dg_lex.specs.Lexemes as lexemes;
+ghost use Rattle.dg_lex.specs.declared.token.TokenKind.TheVariants as kind;
+ghost use Rattle.dg_decl.specs.Readers as readers;
+ghost use Rattle.dg_reader.specs.Gives.{GivesBy};
+ghost use Rattle.dg_reader.specs.declared.fault.FormFault.TheVariants as fault;
+
+use crate::fault::FormFault;
+use dg_lex::{Token, TokenKind, spelling};
+use std::marker::Model;
+
+/// The tokens of a line that are still to be read. It borrows the line and its tokens.
+#[derive(Drop)]
+pub struct Lexemes<'a> {
+    line: &'a [u8],
+    tokens: &'a [Token],
+}
+
+impl<'a> Model for Lexemes<'a> {
+    ghost use Rattle.std.specs.Prelude.{List};
+    ghost use Rattle.dg_lex.specs.Lexemes.{Lexeme, lexemes};
+
+    ghost Value = { List Lexeme };
+
+    ghost view = { λ ls. lexemes ls.line.now ls.tokens.now };
+}
+
+impl<'a> Lexemes<'a> {
+    pub fn new(line: &'a [u8], tokens: &'a [Token]) -> Lexemes<'a>
+        ensures exact { result ≡ lexemes.lexemes line.now tokens.now }
+    {
+        Lexemes { line, tokens }
+    }
+
+    /// Whether a token of this kind and spelling comes next.
+    #[tactic(auto, unfolding(dg_decl::specs::Readers::comes))]
+    pub fn comes(&self, kind: TokenKind, spelled: &[u8]) -> bool
+        ensures exact { result ≡ readers.comes kind spelled.now self.now }
+    {
+        match self.tokens {
+            [] => false,
+            [token, ..] => token.kind == kind && spelling(self.line, token) == spelled,
+        }
+    }
+
+    /// Whether a token of this kind comes next.
+    #[tactic(auto, unfolding(dg_decl::specs::Readers::comes_kind))]
+    pub fn comes_kind(&self, kind: TokenKind) -> bool
+        ensures exact { result ≡ readers.comes_kind kind self.now }
+    {
+        match self.tokens {
+            [] => false,
+            [token, ..] => token.kind == kind,
+        }
+    }
+
+    /// Takes the next token, which has this kind and spelling.
+    #[tactic(auto, unfolding(dg_decl::specs::Readers::taken))]
+    pub fn take(&mut self, kind: TokenKind, spelled: &[u8]) -> Result<(), FormFault>
+        ensures exact { GivesBy (λ _. tt) (readers.taken kind spelled.now self.old) result self.new }
+        ensures cause { IfErr result (λ e. e ≡ fault.NoForm) }
+    {
+        if !self.comes(kind, spelled) {
+            return Err(FormFault::NoForm);
+        }
+        self.skip();
+        Ok(())
+    }
+
+    /// Takes the next token if it has this kind and spelling, and says whether it has.
+    #[tactic(auto, unfolding(dg_decl::specs::Readers::eaten))]
+    pub fn eat(&mut self, kind: TokenKind, spelled: &[u8]) -> bool
+        ensures exact { readers.eaten kind spelled.now self.old ≡ Some (result, self.new) }
+    {
+        let found = self.comes(kind, spelled);
+        if found {
+            self.skip();
+        }
+        found
+    }
+
+    /// Takes the next token, which has this kind, and gives its bytes.
+    #[tactic(auto, unfolding(dg_decl::specs::Readers::spelled))]
+    pub fn spelled(&mut self, kind: TokenKind) -> Result<&'a [u8], FormFault>
+        ensures exact { GivesBy (λ z. z.now) (readers.spelled kind self.old) result self.new }
+        ensures cause { IfErr result (λ e. e ≡ fault.NoForm) }
+    {
+        match self.tokens {
+            [token, rest @ ..] if token.kind == kind => {
+                self.tokens = rest;
+                Ok(spelling(self.line, token))
+            }
+            _ => Err(FormFault::NoForm),
+        }
+    }
+
+    /// Ok where no token is left.
+    #[tactic(auto, unfolding(dg_decl::specs::Readers::at_end))]
+    pub fn end(&self) -> Result<(), FormFault>
+        ensures exact { GivesBy (λ _. tt) (readers.at_end self.now) result self.now }
+        ensures cause { IfErr result (λ e. e ≡ fault.NoForm) }
+    {
+        if self.tokens.is_empty() {
+            Ok(())
+        } else {
+            Err(FormFault::NoForm)
+        }
+    }
+
+    fn skip(&mut self)
+        ensures exact { self.new ≡ drop 1 self.old }
+    {
+        if let [_, rest @ ..] = self.tokens {
+            self.tokens = rest;
+        }
+    }
+}
