@@ -1,3 +1,6 @@
 pub mod TypeSteps
+pub mod ConstantSteps
 pub mod ListLemmas
 pub mod SplitLemmas
+pub mod NestingLemmas
+pub mod BudgetLemmas

@@ -5,6 +5,7 @@ ghost use Rattle.std.specs.List.{prefix_len};
 ghost use Rattle.dg_lex.specs.Lexemes as lexemes;
 ghost use Rattle.dg_lex.specs.declared.token.TokenKind.TheVariants as kind;
 ghost use Rattle.dg_decl.specs.Readers as readers;
+ghost use Rattle.dg_decl.specs.ExpressionForms as forms;
 ghost use Rattle.dg_reader.specs.Gives.{GivesBy};
 ghost use Rattle.dg_reader.specs.declared.fault.FormFault.TheVariants as fault;
 
@@ -28,6 +29,12 @@ impl<'a> Model for Lexemes<'a> {
     ghost view = { λ ls. lexemes ls.line.now ls.tokens.now };
 }
 
+fn is_spelled(line: &[u8], token: &Token, kind: TokenKind, spelled: &[u8]) -> bool
+    ensures exact { result ≡ readers.is_spelled kind spelled.now (lexemes.lexeme_of line.now token.now) }
+{
+    token.kind == kind && spelling(line, token) == spelled
+}
+
 impl<'a> Lexemes<'a> {
     pub fn new(line: &'a [u8], tokens: &'a [Token]) -> Lexemes<'a>
         ensures exact { result ≡ lexemes.lexemes line.now tokens.now }
@@ -42,7 +49,7 @@ impl<'a> Lexemes<'a> {
     {
         match self.tokens {
             [] => false,
-            [token, ..] => token.kind == kind && spelling(self.line, token) == spelled,
+            [token, ..] => is_spelled(self.line, token, kind, spelled),
         }
     }
 
@@ -55,6 +62,44 @@ impl<'a> Lexemes<'a> {
             [] => false,
             [token, ..] => token.kind == kind,
         }
+    }
+
+    /// Whether such a name comes next, and `(` behind it.
+    #[tactic(auto, unfolding(dg_decl::specs::ExpressionForms::comes_call, dg_decl::specs::Readers::comes))]
+    pub fn comes_call(&self, name: &[u8]) -> bool
+        ensures exact { result ≡ forms.comes_call name.now self.now }
+    {
+        match self.tokens {
+            [first, second, ..] => {
+                is_spelled(self.line, first, TokenKind::Name, name)
+                    && is_spelled(self.line, second, TokenKind::Sign, b"(")
+            }
+            _ => false,
+        }
+    }
+
+    /// How many `(` come next, one behind another.
+    pub fn opens(&self) -> usize
+        ensures exact { result ≡ prefix_len (readers.is_spelled kind.Sign (codes "(")) self.now }
+    {
+        let mut rest = self.tokens;
+        let mut count = 0;
+        while let [token, more @ ..] = rest {
+            if !is_spelled(self.line, token, TokenKind::Sign, b"(") {
+                return count;
+            }
+            count += 1;
+            rest = more;
+        }
+        count
+    }
+
+    /// Takes so many tokens.
+    pub fn skip_many(&mut self, count: usize)
+        requires { count ≤ length self.old }
+        ensures exact { self.new ≡ drop count self.old }
+    {
+        self.tokens = &self.tokens[count..];
     }
 
     /// Takes the next token, which has this kind and spelling.

@@ -1,7 +1,9 @@
 //! Reads a document from its bytes.
 #![tactic(auto)]
 
+mod constants;
 mod document;
+mod expressions;
 mod fault;
 mod lexemes;
 mod parts;

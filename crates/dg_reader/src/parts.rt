@@ -170,3 +170,14 @@ pub fn optional_names(
     }
     Ok(Items::new(alloc))
 }
+
+/// The names of all at-names that stand in front.
+pub fn at_names(alloc: Global, tokens: &mut Lexemes<'_>) -> Result<Items<Name>, FormFault>
+    ensures exact { Gives (readers.at_names tokens.old) result tokens.new }
+{
+    let mut found = Items::new(alloc);
+    while tokens.comes_kind(TokenKind::AtName) {
+        found.push(at_name(alloc, tokens)?)?;
+    }
+    Ok(found)
+}

@@ -70,9 +70,27 @@ fn constructed(
     }
 }
 
+/// A name alone, or a constructor with its types between `<` and `>`, which nest at most so deep.
+#[cycle(types)]
+#[tactic(auto, unfolding(dg_decl::specs::TypeForms::type_over))]
+fn type_over(
+    alloc: Global,
+    tokens: &mut Lexemes<'_>,
+    depth: usize,
+) -> Result<Shape, FormFault>
+    ensures exact { Gives (types.type_over (types.type_within depth) tokens.old) result tokens.new }
+{
+    let n = name(alloc, tokens)?;
+    if !tokens.eat(TokenKind::Sign, b"<") {
+        return Ok(shape_named(n));
+    }
+    let shape = constructed(alloc, tokens, &n, depth)?;
+    sign(tokens, b">")?;
+    Ok(shape)
+}
+
 /// A type, at most so deep.
 #[cycle(types)]
-#[tactic(auto, using(crate::proofs::TypeSteps::type_step, crate::proofs::TypeSteps::type_none), unfolding(dg_decl::specs::TypeForms::type_over))]
 fn type_within(
     alloc: Global,
     tokens: &mut Lexemes<'_>,
@@ -83,13 +101,7 @@ fn type_within(
     if depth == 0 {
         return Err(FormFault::NoForm);
     }
-    let n = name(alloc, tokens)?;
-    if !tokens.eat(TokenKind::Sign, b"<") {
-        return Ok(shape_named(n));
-    }
-    let shape = constructed(alloc, tokens, &n, depth - 1)?;
-    sign(tokens, b">")?;
-    Ok(shape)
+    type_over(alloc, tokens, depth - 1)
 }
 
 #[tactic(auto, unfolding(dg_decl::specs::TypeForms::type_form))]
