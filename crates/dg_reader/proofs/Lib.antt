@@ -4,3 +4,7 @@ pub mod ListLemmas
 pub mod SplitLemmas
 pub mod NestingLemmas
 pub mod BudgetLemmas
+pub mod RowLemmas
+pub mod ParenLemmas
+pub mod AtNameLemmas
+pub mod LexemeLemmas

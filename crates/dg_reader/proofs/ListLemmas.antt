@@ -19,7 +19,7 @@ with_front front (Some p) = Some (front ++ p.0, p.1)
 abbrev a_comma : List Lexeme → Option (Bool × List Lexeme)
 a_comma ls = eaten kind.Sign (codes ",") ls
 
-regroup : {A : Type 0} (front : List A) (x : A) (read : ReadList A) → with_front front (with_front (x ∷ []) read) ≡ with_front (front ++ x ∷ []) read
+pub regroup : {A : Type 0} (front : List A) (x : A) (read : ReadList A) → with_front front (with_front (x ∷ []) read) ≡ with_front (front ++ x ∷ []) read
 regroup front x None = refl
 regroup front x (Some p) = ap (λ (ys : List _). Some (ys, p.1)) (sym (append_assoc front (x ∷ []) p.0))
 

@@ -25,6 +25,10 @@ plain_atom inner ls =
     else (if comes kind.Word (codes "new") ls then object inner ls
     else named inner ls))
 
+-- an operand without parentheses of its own
+unfoldable pub plain_prim : Reader Expr → Reader Expr
+plain_prim inner = plain_atom inner >>= fields nesting_limit
+
 unfoldable pub atom_to : Family → ℕ → Reader Expr
 atom_to inner b ls =
     if comes kind.Sign (codes "(") ls then enclosed (inner b) ls else plain_atom (inner (b - 1)) ls

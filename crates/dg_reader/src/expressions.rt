@@ -268,6 +268,21 @@ fn fields(alloc: Global, tokens: &mut Lexemes<'_>, of: Expr) -> Result<Expr, For
     Ok(read)
 }
 
+/// An operand without parentheses of its own.
+#[cycle(reading)]
+#[tactic(auto, unfolding(crate::specs::Budgets::plain_prim))]
+fn plain_prim(
+    alloc: Global,
+    tokens: &mut Lexemes<'_>,
+    depth: usize,
+    budget: usize,
+) -> Result<Expr, FormFault>
+    ensures exact { Gives (budgets.plain_prim (budgets.expression_to depth budget) tokens.old) result tokens.new }
+{
+    let atom = plain_atom(alloc, tokens, depth, budget)?;
+    fields(alloc, tokens, atom)
+}
+
 /// What stands within parentheses, the `)`, and the fields behind it.
 #[cycle(reading)]
 #[tactic(auto, unfolding(crate::specs::Budgets::closed_to))]
@@ -338,10 +353,12 @@ fn prim(
 {
     let opens = tokens.opens();
     if opens == 0 {
-        let atom = plain_atom(alloc, tokens, depth, budget.saturating_sub(1))?;
-        return fields(alloc, tokens, atom);
+        return plain_prim(alloc, tokens, depth, budget.saturating_sub(1));
     }
-    if depth < opens || budget == 0 {
+    if depth < opens {
+        return Err(FormFault::NoForm);
+    }
+    if budget == 0 {
         return Err(FormFault::NoForm);
     }
     in_opens(alloc, tokens, opens, depth, budget)

@@ -1,11 +1,12 @@
 //! The tokens of a line, one after another.
 
-ghost use Rattle.std.specs.Prelude.{◌≡◌, ◌≤◌, ◌∷◌, [], Some, drop, take, length, codes, IfErr, OnErr};
+ghost use Rattle.std.specs.Prelude.{◌≡◌, ◌≤◌, ◌==◌, not, if◌then◌else◌, Some, false, drop, length, codes, IfErr};
 ghost use Rattle.std.specs.List.{prefix_len};
 ghost use Rattle.dg_lex.specs.Lexemes as lexemes;
 ghost use Rattle.dg_lex.specs.declared.token.TokenKind.TheVariants as kind;
 ghost use Rattle.dg_decl.specs.Readers as readers;
 ghost use Rattle.dg_decl.specs.ExpressionForms as forms;
+ghost use Rattle.dg_decl.specs.Forms as items;
 ghost use Rattle.dg_reader.specs.Gives.{GivesBy};
 ghost use Rattle.dg_reader.specs.declared.fault.FormFault.TheVariants as fault;
 
@@ -33,6 +34,53 @@ fn is_spelled(line: &[u8], token: &Token, kind: TokenKind, spelled: &[u8]) -> bo
     ensures exact { result ≡ readers.is_spelled kind spelled.now (lexemes.lexeme_of line.now token.now) }
 {
     token.kind == kind && spelling(line, token) == spelled
+}
+
+/// How many `(` stand in front, one behind another.
+fn opens(line: &[u8], tokens: &[Token]) -> usize
+    ensures exact { result ≡ prefix_len (readers.is_spelled kind.Sign (codes "(")) (lexemes.lexemes line.now tokens.now) }
+{
+    let mut rest = tokens;
+    let mut count = 0;
+    while let [token, more @ ..] = rest {
+        if !is_spelled(line, token, TokenKind::Sign, b"(") {
+            return count;
+        }
+        count += 1;
+        rest = more;
+    }
+    count
+}
+
+/// Whether what stands in parentheses goes on behind a token.
+fn is_inside(line: &[u8], token: &Token, inside: bool) -> bool
+    ensures exact { result ≡ (if inside then not (readers.is_spelled kind.Sign (codes ")") (lexemes.lexeme_of line.now token.now)) else readers.is_spelled kind.Sign (codes "(") (lexemes.lexeme_of line.now token.now)) }
+{
+    if inside {
+        !is_spelled(line, token, TokenKind::Sign, b")")
+    } else {
+        is_spelled(line, token, TokenKind::Sign, b"(")
+    }
+}
+
+fn form_word<'a>(line: &'a [u8], tokens: &[Token]) -> &'a [u8]
+    ensures exact { result.now ≡ items.form_word false (lexemes.lexemes line.now tokens.now) }
+{
+    let mut rest = tokens;
+    let mut inside = false;
+    while let [token, more @ ..] = rest {
+        if !inside && token.kind == TokenKind::Name {
+            return spelling(line, token);
+        }
+        let skipped = !inside && token.kind == TokenKind::AtName;
+        let goes_on = is_inside(line, token, inside);
+        if !inside && !skipped && !goes_on {
+            return &line[..0];
+        }
+        inside = goes_on;
+        rest = more;
+    }
+    &line[..0]
 }
 
 impl<'a> Lexemes<'a> {
@@ -82,16 +130,22 @@ impl<'a> Lexemes<'a> {
     pub fn opens(&self) -> usize
         ensures exact { result ≡ prefix_len (readers.is_spelled kind.Sign (codes "(")) self.now }
     {
-        let mut rest = self.tokens;
-        let mut count = 0;
-        while let [token, more @ ..] = rest {
-            if !is_spelled(self.line, token, TokenKind::Sign, b"(") {
-                return count;
-            }
-            count += 1;
-            rest = more;
-        }
-        count
+        opens(self.line, self.tokens)
+    }
+
+    /// The word that tells the form of a line: the first name behind at-names and what stands in
+    /// parentheses, or no bytes where there is none.
+    pub fn form_word(&self) -> &'a [u8]
+        ensures exact { result.now ≡ items.form_word false self.now }
+    {
+        form_word(self.line, self.tokens)
+    }
+
+    /// Whether no token is left.
+    pub fn is_empty(&self) -> bool
+        ensures exact { result ≡ (length self.now == 0) }
+    {
+        self.tokens.is_empty()
     }
 
     /// Takes so many tokens.
