@@ -1,5 +1,6 @@
 -- Constants by how deep they nest at most.
-use Rattle.std.proofs.Common.{◌≡◌, ℕ, zero, suc, ◌-◌, ◌<◌, List, Option, None, Result, refl, subst, arith}
+use Rattle.std.proofs.Common.{◌≡◌, ℕ, zero, suc, ◌-◌, ◌<◌, List, Option, None, Result, refl, subst}
+use Rattle.std.proofs.Common.{arith}
 use Rattle.dg_lex.specs.Lexemes.{Lexeme}
 use Rattle.dg_decl.specs.declared.expression.Expr.{Expr}
 use Rattle.dg_decl.specs.ExpressionForms.{constant_within, constant_over}

@@ -8,3 +8,8 @@ pub mod RowLemmas
 pub mod ParenLemmas
 pub mod AtNameLemmas
 pub mod LexemeLemmas
+pub mod StepLemmas
+pub mod TreeSteps
+pub mod DraftLemmas
+pub mod ReadingLemmas
+pub mod BoundLemmas

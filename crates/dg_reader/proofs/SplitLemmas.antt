@@ -1,5 +1,6 @@
 -- The first line of a text.
-use Rattle.std.proofs.Common.{◌≡◌, ℕ, zero, suc, ◌+◌, ◌<◌, Bool, true, false, eqb, [], ◌∷◌, length, get_or, take, drop, refl, ap, arith}
+use Rattle.std.proofs.Common.{◌≡◌, ℕ, zero, suc, ◌+◌, ◌<◌, Bool, true, false, eqb, [], ◌∷◌, length}
+use Rattle.std.proofs.Common.{get_or, take, drop, refl, ap, arith}
 use Rattle.std.specs.List.{list_any}
 use Rattle.std.proofs.lemmas.List.Folds.{list_any_at}
 use Rattle.dg_lex.specs.Bytes.{Bytes}
@@ -22,7 +23,8 @@ not_first b z k none = isnt_end (is_end b) (none 0 (omega arith))
 later : (b : ℕ) (z : Bytes) (k : ℕ) → NoneBefore (b ∷ z) (suc k) → NoneBefore z k
 later b z k none i lt = none (suc i) (omega arith)
 
-pub first_of_lines : (z : Bytes) (k : ℕ) → k < length z → is_end (get_or z k 0) ≡ true → NoneBefore z k → lines_of z ≡ take k z ∷ lines_of (drop (k + 1) z)
+pub first_of_lines : (z : Bytes) (k : ℕ) → k < length z → is_end (get_or z k 0) ≡ true
+    → NoneBefore z k → lines_of z ≡ take k z ∷ lines_of (drop (k + 1) z)
 first_of_lines [] k lt at none = absurd (omega arith)
 first_of_lines (b ∷ z) zero lt at none = rw at refl
 first_of_lines (b ∷ z) (suc k) lt at none =
@@ -31,7 +33,8 @@ first_of_lines (b ∷ z) (suc k) lt at none =
     let one : suc k + 1 ≡ suc (k + 1) = omega arith in
     rw (not_first b z k none, one) (ap (with_first b) more)
 
-pub rest_behind : (z : Bytes) (k : ℕ) → k < length z → is_end (get_or z k 0) ≡ true → NoneBefore z k → rest_of z ≡ rest_of (drop (k + 1) z)
+pub rest_behind : (z : Bytes) (k : ℕ) → k < length z → is_end (get_or z k 0) ≡ true → NoneBefore z k
+    → rest_of z ≡ rest_of (drop (k + 1) z)
 rest_behind [] k lt at none = absurd (omega arith)
 rest_behind (b ∷ z) zero lt at none = rw at refl
 rest_behind (b ∷ z) (suc k) lt at none =
@@ -43,12 +46,15 @@ rest_behind (b ∷ z) (suc k) lt at none =
 
 pub no_lines : (z : Bytes) → NoneBefore z (length z) → lines_of z ≡ []
 no_lines [] none = refl
-no_lines (b ∷ z) none = rw (not_first b z (length z) none) (ap (with_first b) (no_lines z (later b z (length z) none)))
+no_lines (b ∷ z) none = rw (not_first b z (length z) none) (ap (with_first b) (no_lines z (later b z
+    (length z) none)))
 
 none_ends : (z : Bytes) → NoneBefore z (length z) → list_any is_end z ≡ false
 none_ends [] none = refl
-none_ends (b ∷ z) none = rw (not_first b z (length z) none) (none_ends z (later b z (length z) none))
+none_ends (b ∷ z) none = rw (not_first b z (length z) none) (none_ends z (later b z (length z)
+    none))
 
 pub all_rest : (z : Bytes) → NoneBefore z (length z) → rest_of z ≡ z
 all_rest [] none = refl
-all_rest (b ∷ z) none = rw (not_first b z (length z) none, none_ends z (later b z (length z) none)) refl
+all_rest (b ∷ z) none = rw (not_first b z (length z) none, none_ends z (later b z (length z) none))
+    refl

@@ -10,8 +10,10 @@ use Rattle.dg_decl.specs.declared.expression.Cond.{Cond}
 use Rattle.dg_decl.specs.declared.expression.Cond.TheVariants as cond
 use Rattle.dg_decl.specs.declared.expression.Tree.{Tree}
 use Rattle.dg_decl.specs.declared.expression.Tree.TheVariants as tree
-use Rattle.dg_decl.specs.Readers.{Reader, ◌>>=◌, ◌>>◌, pure, nothing, comes, comes_kind, eaten, sign, word, enclosed}
-use Rattle.dg_decl.specs.ExpressionForms.{nesting_limit, text_constant, integer_constant, object, named, fields, row_of, comes_call, has, is_ok, awaited}
+use Rattle.dg_decl.specs.Readers.{Reader, ◌>>=◌, ◌>>◌, pure, nothing, comes, comes_kind, eaten}
+use Rattle.dg_decl.specs.Readers.{sign, word, enclosed}
+use Rattle.dg_decl.specs.ExpressionForms.{nesting_limit, text_constant, integer_constant, object}
+use Rattle.dg_decl.specs.ExpressionForms.{named, fields, row_of, comes_call, has, is_ok, awaited}
 
 -- expressions, for each budget
 abbrev pub Family : Type 0
@@ -43,14 +45,17 @@ added_to inner b n e = row_of (codes "+") (prim_to inner (b - 1)) (λ a b. expr.
 unfoldable pub sum_to : Family → ℕ → Reader Expr
 sum_to inner b = prim_to inner b >>= added_to inner b nesting_limit
 
+-- the `)` behind an expression, and its fields
+unfoldable pub closing : Expr → Reader Expr
+closing e = sign (codes ")") >> fields nesting_limit e
+
 -- what stands within parentheses, the `)`, and the fields behind it
 unfoldable pub closed_to : Family → ℕ → Reader Expr
-closed_to inner b = inner b >>= λ e. sign (codes ")") >> fields nesting_limit e
+closed_to inner b = inner b >>= closing
 
 -- what stands behind an operand in parentheses: further terms, the `)` and fields
 unfoldable pub around_to : Family → ℕ → Expr → Reader Expr
-around_to inner b e = added_to inner b nesting_limit e >>= λ s. sign (codes ")") >> fields
-    nesting_limit s
+around_to inner b e = added_to inner b nesting_limit e >>= closing
 
 unfoldable pub comparison_to : Family → ℕ → Reader Cond
 comparison_to inner b = do

@@ -4,7 +4,8 @@ use Rattle.std.specs.Prelude.{◌≡◌, ℕ, ◌<◌, ◌^◌, List, length, sl
 use Rattle.std.specs.List.{count_by}
 use Rattle.dg_decl.specs.declared.item.Item.{Item}
 use Rattle.dg_decl.specs.Blocks.{open_block}
-use Rattle.dg_decl.specs.Limits.{is_declaration_line, is_component_line, is_open_line, is_link_line, is_ask_line}
+use Rattle.dg_decl.specs.Limits.{is_declaration_line, is_component_line, is_open_line, is_link_line}
+use Rattle.dg_decl.specs.Limits.{is_ask_line}
 use Rattle.dg_reader.specs.declared.counts.Counts.{Counts}
 
 -- the item of this index, where there is an index

@@ -54,7 +54,8 @@ fn tree_choice(
     tokens: &mut Lexemes<'_>,
     depth: usize,
 ) -> Result<Tree, FormFault>
-    ensures exact { Gives (budgets.tree_choice_to (budgets.tree_to depth) tokens.old) result tokens.new }
+    ensures exact { Gives (budgets.tree_choice_to (budgets.tree_to depth) tokens.old) result
+        tokens.new }
 {
     word(tokens, b"if")?;
     let cond = condition(alloc, tokens, DEPTH_LIMIT, NESTING_LIMIT)?;
@@ -77,7 +78,8 @@ fn tree_over(
     tokens: &mut Lexemes<'_>,
     depth: usize,
 ) -> Result<Tree, FormFault>
-    ensures exact { Gives (budgets.tree_over_to (budgets.tree_to depth) tokens.old) result tokens.new }
+    ensures exact { Gives (budgets.tree_over_to (budgets.tree_to depth) tokens.old) result
+        tokens.new }
 {
     if tokens.comes(TokenKind::Word, b"if") {
         tree_choice(alloc, tokens, depth)

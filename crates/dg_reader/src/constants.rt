@@ -37,7 +37,8 @@ fn constant_list(
     tokens: &mut Lexemes<'_>,
     depth: usize,
 ) -> Result<Items<Expr>, FormFault>
-    ensures exact { Gives (readers.list_of (forms.constant_within depth) readers.list_limit tokens.old) result tokens.new }
+    ensures exact { Gives (readers.list_of (forms.constant_within depth) readers.list_limit
+        tokens.old) result tokens.new }
 {
     let mut found = Items::new(alloc);
     for _turn in 0..LIST_LIMIT {
@@ -56,7 +57,8 @@ fn constants(
     tokens: &mut Lexemes<'_>,
     depth: usize,
 ) -> Result<Items<Expr>, FormFault>
-    ensures exact { Gives (readers.in_parentheses (forms.constant_within depth) tokens.old) result tokens.new }
+    ensures exact { Gives (readers.in_parentheses (forms.constant_within depth) tokens.old)
+        result tokens.new }
 {
     sign(tokens, b"(")?;
     if tokens.eat(TokenKind::Sign, b")") {
@@ -75,7 +77,8 @@ fn constant_object(
     tokens: &mut Lexemes<'_>,
     depth: usize,
 ) -> Result<Expr, FormFault>
-    ensures exact { Gives (forms.object (forms.constant_within depth) tokens.old) result tokens.new }
+    ensures exact { Gives (forms.object (forms.constant_within depth) tokens.old) result
+        tokens.new }
 {
     word(tokens, b"new")?;
     let class = name(alloc, tokens)?;
@@ -91,7 +94,8 @@ fn constant_over(
     tokens: &mut Lexemes<'_>,
     depth: usize,
 ) -> Result<Expr, FormFault>
-    ensures exact { Gives (forms.constant_over (forms.constant_within depth) tokens.old) result tokens.new }
+    ensures exact { Gives (forms.constant_over (forms.constant_within depth) tokens.old) result
+        tokens.new }
 {
     if tokens.comes_kind(TokenKind::Text) {
         text_constant(alloc, tokens)

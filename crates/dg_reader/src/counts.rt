@@ -76,7 +76,8 @@ impl Counts {
     /// The counts once there is one more item.
     pub fn with(self, item: &Item) -> Counts
         requires { drafts.AreSmall self }
-        ensures exact { (items : List Item) → self ≡ drafts.counts_of items → result ≡ drafts.counts_of (items ++ item.now ∷ []) }
+        ensures exact { (items : List Item) → self ≡ drafts.counts_of items
+            → result ≡ drafts.counts_of (items ++ item.now ∷ []) }
     {
         Counts {
             declarations: self.declarations + usize::from(is_declaration(item)),
@@ -89,7 +90,8 @@ impl Counts {
 
     /// Whether an item is not one too many.
     pub fn is_within_limits(self, item: &Item) -> bool
-        ensures exact { (items : List Item) → self ≡ drafts.counts_of items → result ≡ limits.is_within_limits item.now items }
+        ensures exact { (items : List Item) → self ≡ drafts.counts_of items
+            → result ≡ limits.is_within_limits item.now items }
     {
         (!is_declaration(item) || self.declarations < DECLARATION_LIMIT)
             && (!is_component(item) || self.components < COMPONENT_LIMIT)

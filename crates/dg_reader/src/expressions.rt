@@ -44,7 +44,8 @@ fn expression_list(
     depth: usize,
     budget: usize,
 ) -> Result<Items<Expr>, FormFault>
-    ensures exact { Gives (readers.list_of (budgets.expression_to depth budget) readers.list_limit tokens.old) result tokens.new }
+    ensures exact { Gives (readers.list_of (budgets.expression_to depth budget)
+        readers.list_limit tokens.old) result tokens.new }
 {
     let mut found = Items::new(alloc);
     for _turn in 0..LIST_LIMIT {
@@ -64,7 +65,8 @@ fn in_parentheses(
     depth: usize,
     budget: usize,
 ) -> Result<Items<Expr>, FormFault>
-    ensures exact { Gives (readers.in_parentheses (budgets.expression_to depth budget) tokens.old) result tokens.new }
+    ensures exact { Gives (readers.in_parentheses (budgets.expression_to depth budget)
+        tokens.old) result tokens.new }
 {
     sign(tokens, b"(")?;
     if tokens.eat(TokenKind::Sign, b")") {
@@ -76,14 +78,21 @@ fn in_parentheses(
 }
 
 #[cycle(reading)]
-#[tactic(auto, unfolding(dg_decl::specs::Readers::some_in_parentheses, dg_decl::specs::Readers::enclosed))]
+#[tactic(
+    auto,
+    unfolding(
+        dg_decl::specs::Readers::some_in_parentheses,
+        dg_decl::specs::Readers::enclosed
+    )
+)]
 fn some_in_parentheses(
     alloc: Global,
     tokens: &mut Lexemes<'_>,
     depth: usize,
     budget: usize,
 ) -> Result<Items<Expr>, FormFault>
-    ensures exact { Gives (readers.some_in_parentheses (budgets.expression_to depth budget) tokens.old) result tokens.new }
+    ensures exact { Gives (readers.some_in_parentheses (budgets.expression_to depth budget)
+        tokens.old) result tokens.new }
 {
     sign(tokens, b"(")?;
     let found = expression_list(alloc, tokens, depth, budget)?;
@@ -100,7 +109,8 @@ fn object(
     depth: usize,
     budget: usize,
 ) -> Result<Expr, FormFault>
-    ensures exact { Gives (forms.object (budgets.expression_to depth budget) tokens.old) result tokens.new }
+    ensures exact { Gives (forms.object (budgets.expression_to depth budget) tokens.old) result
+        tokens.new }
 {
     word(tokens, b"new")?;
     let class = name(alloc, tokens)?;
@@ -109,7 +119,13 @@ fn object(
 }
 
 #[cycle(reading)]
-#[tactic(auto, unfolding(dg_decl::specs::ExpressionForms::call_of_one, dg_decl::specs::Readers::enclosed))]
+#[tactic(
+    auto,
+    unfolding(
+        dg_decl::specs::ExpressionForms::call_of_one,
+        dg_decl::specs::Readers::enclosed
+    )
+)]
 fn call_of_one(
     alloc: Global,
     tokens: &mut Lexemes<'_>,
@@ -117,13 +133,13 @@ fn call_of_one(
     depth: usize,
     budget: usize,
 ) -> Result<Expr, FormFault>
-    ensures exact { Gives (forms.call_of_one f (budgets.expression_to depth budget) tokens.old) result tokens.new }
+    ensures exact { Gives (forms.call_of_one f (budgets.expression_to depth budget) tokens.old)
+        result tokens.new }
 {
     sign(tokens, b"(")?;
-    let arg = expression(alloc, tokens, depth, budget)?;
-    sign(tokens, b")")?;
     let mut args = Items::new(alloc);
-    args.push(arg)?;
+    args.push(expression(alloc, tokens, depth, budget)?)?;
+    sign(tokens, b")")?;
     Ok(Expr::Call { f, args })
 }
 
@@ -135,17 +151,15 @@ fn or_else(
     depth: usize,
     budget: usize,
 ) -> Result<Expr, FormFault>
-    ensures exact { Gives (forms.or_else (budgets.expression_to depth budget) tokens.old) result tokens.new }
+    ensures exact { Gives (forms.or_else (budgets.expression_to depth budget) tokens.old) result
+        tokens.new }
 {
     sign(tokens, b"(")?;
     let param = name(alloc, tokens)?;
     sign(tokens, b",")?;
-    let other = expression(alloc, tokens, depth, budget)?;
+    let other = Boxed::new(alloc, expression(alloc, tokens, depth, budget)?)?;
     sign(tokens, b")")?;
-    Ok(Expr::OrElse {
-        param,
-        other: Boxed::new(alloc, other)?,
-    })
+    Ok(Expr::OrElse { param, other })
 }
 
 /// What stands behind the name of a function of expressions, where this is one.
@@ -158,7 +172,8 @@ fn call_of(
     depth: usize,
     budget: usize,
 ) -> Result<Expr, FormFault>
-    ensures exact { Gives (forms.call_of (budgets.expression_to depth budget) f.now tokens.old) result tokens.new }
+    ensures exact { Gives (forms.call_of (budgets.expression_to depth budget) f.now tokens.old)
+        result tokens.new }
 {
     if f.is(b"cat") {
         let args = some_in_parentheses(alloc, tokens, depth, budget)?;
@@ -193,7 +208,8 @@ fn function(
     depth: usize,
     budget: usize,
 ) -> Result<Expr, FormFault>
-    ensures exact { Gives (forms.function (budgets.expression_to depth budget) f.now tokens.old) result tokens.new }
+    ensures exact { Gives (forms.function (budgets.expression_to depth budget) f.now tokens.old)
+        result tokens.new }
 {
     if f.is(b"get") {
         call_by_name(alloc, tokens, ParamCall::Get)
@@ -212,14 +228,21 @@ fn function(
 
 /// A name: a function where `(` stands behind it, else a parameter.
 #[cycle(reading)]
-#[tactic(auto, unfolding(dg_decl::specs::ExpressionForms::named, dg_decl::specs::ExpressionForms::named_as))]
+#[tactic(
+    auto,
+    unfolding(
+        dg_decl::specs::ExpressionForms::named,
+        dg_decl::specs::ExpressionForms::named_as
+    )
+)]
 fn named(
     alloc: Global,
     tokens: &mut Lexemes<'_>,
     depth: usize,
     budget: usize,
 ) -> Result<Expr, FormFault>
-    ensures exact { Gives (forms.named (budgets.expression_to depth budget) tokens.old) result tokens.new }
+    ensures exact { Gives (forms.named (budgets.expression_to depth budget) tokens.old) result
+        tokens.new }
 {
     let name = name(alloc, tokens)?;
     if tokens.comes(TokenKind::Sign, b"(") {
@@ -237,7 +260,8 @@ fn plain_atom(
     depth: usize,
     budget: usize,
 ) -> Result<Expr, FormFault>
-    ensures exact { Gives (budgets.plain_atom (budgets.expression_to depth budget) tokens.old) result tokens.new }
+    ensures exact { Gives (budgets.plain_atom (budgets.expression_to depth budget) tokens.old)
+        result tokens.new }
 {
     if tokens.comes_kind(TokenKind::Text) {
         text_constant(alloc, tokens)
@@ -268,6 +292,15 @@ fn fields(alloc: Global, tokens: &mut Lexemes<'_>, of: Expr) -> Result<Expr, For
     Ok(read)
 }
 
+/// The `)` behind an expression, and its fields.
+#[tactic(auto, unfolding(crate::specs::Budgets::closing))]
+fn closing(alloc: Global, tokens: &mut Lexemes<'_>, inner: Expr) -> Result<Expr, FormFault>
+    ensures exact { Gives (budgets.closing inner tokens.old) result tokens.new }
+{
+    sign(tokens, b")")?;
+    fields(alloc, tokens, inner)
+}
+
 /// An operand without parentheses of its own.
 #[cycle(reading)]
 #[tactic(auto, unfolding(crate::specs::Budgets::plain_prim))]
@@ -277,7 +310,8 @@ fn plain_prim(
     depth: usize,
     budget: usize,
 ) -> Result<Expr, FormFault>
-    ensures exact { Gives (budgets.plain_prim (budgets.expression_to depth budget) tokens.old) result tokens.new }
+    ensures exact { Gives (budgets.plain_prim (budgets.expression_to depth budget) tokens.old)
+        result tokens.new }
 {
     let atom = plain_atom(alloc, tokens, depth, budget)?;
     fields(alloc, tokens, atom)
@@ -292,11 +326,11 @@ fn closed(
     depth: usize,
     budget: usize,
 ) -> Result<Expr, FormFault>
-    ensures exact { Gives (budgets.closed_to (budgets.expression_to depth) budget tokens.old) result tokens.new }
+    ensures exact { Gives (budgets.closed_to (budgets.expression_to depth) budget tokens.old)
+        result tokens.new }
 {
     let inner = expression(alloc, tokens, depth, budget)?;
-    sign(tokens, b")")?;
-    fields(alloc, tokens, inner)
+    closing(alloc, tokens, inner)
 }
 
 /// What stands behind an operand in parentheses: further terms, the `)` and fields.
@@ -309,11 +343,11 @@ fn around(
     depth: usize,
     budget: usize,
 ) -> Result<Expr, FormFault>
-    ensures exact { Gives (budgets.around_to (budgets.expression_to depth) budget operand tokens.old) result tokens.new }
+    ensures exact { Gives (budgets.around_to (budgets.expression_to depth) budget operand
+        tokens.old) result tokens.new }
 {
     let sum = added(alloc, tokens, operand, depth, budget)?;
-    sign(tokens, b")")?;
-    fields(alloc, tokens, sum)
+    closing(alloc, tokens, sum)
 }
 
 /// An operand with so many `(` in front.
@@ -329,7 +363,8 @@ fn in_opens(
     requires count { opens ≡ prefix_len (readers.is_spelled kind.Sign (codes "(")) tokens.old }
     requires within { opens ≤ depth }
     requires budget { 0 < budget }
-    ensures exact { Gives (budgets.prim_to (budgets.expression_to depth) budget tokens.old) result tokens.new }
+    ensures exact { Gives (budgets.prim_to (budgets.expression_to depth) budget tokens.old)
+        result tokens.new }
 {
     tokens.skip_many(opens);
     let mut level = depth - (opens - 1);
@@ -349,7 +384,8 @@ fn prim(
     depth: usize,
     budget: usize,
 ) -> Result<Expr, FormFault>
-    ensures exact { Gives (budgets.prim_to (budgets.expression_to depth) budget tokens.old) result tokens.new }
+    ensures exact { Gives (budgets.prim_to (budgets.expression_to depth) budget tokens.old)
+        result tokens.new }
 {
     let opens = tokens.opens();
     if opens == 0 {
@@ -373,7 +409,8 @@ fn added(
     depth: usize,
     budget: usize,
 ) -> Result<Expr, FormFault>
-    ensures exact { Gives (budgets.added_to (budgets.expression_to depth) budget forms.nesting_limit to tokens.old) result tokens.new }
+    ensures exact { Gives (budgets.added_to (budgets.expression_to depth) budget
+        forms.nesting_limit to tokens.old) result tokens.new }
 {
     let mut read = to;
     for _turn in 0..NESTING_LIMIT {
@@ -395,7 +432,8 @@ pub fn sum(
     depth: usize,
     budget: usize,
 ) -> Result<Expr, FormFault>
-    ensures exact { Gives (budgets.sum_to (budgets.expression_to depth) budget tokens.old) result tokens.new }
+    ensures exact { Gives (budgets.sum_to (budgets.expression_to depth) budget tokens.old) result
+        tokens.new }
 {
     let first = prim(alloc, tokens, depth, budget)?;
     added(alloc, tokens, first, depth, budget)
@@ -410,16 +448,17 @@ fn comparison(
     depth: usize,
     budget: usize,
 ) -> Result<Cond, FormFault>
-    ensures exact { Gives (budgets.comparison_to (budgets.expression_to depth) budget tokens.old) result tokens.new }
+    ensures exact { Gives (budgets.comparison_to (budgets.expression_to depth) budget tokens.old)
+        result tokens.new }
 {
-    let first = sum(alloc, tokens, depth, budget)?;
+    let first = Boxed::new(alloc, sum(alloc, tokens, depth, budget)?)?;
     if tokens.eat(TokenKind::Sign, b"==") {
-        let second = sum(alloc, tokens, depth, budget)?;
-        return Ok(Cond::Equal(Boxed::new(alloc, first)?, Boxed::new(alloc, second)?));
+        let second = Boxed::new(alloc, sum(alloc, tokens, depth, budget)?)?;
+        return Ok(Cond::Equal(first, second));
     }
     sign(tokens, b"<")?;
-    let second = sum(alloc, tokens, depth, budget)?;
-    Ok(Cond::Less(Boxed::new(alloc, first)?, Boxed::new(alloc, second)?))
+    let second = Boxed::new(alloc, sum(alloc, tokens, depth, budget)?)?;
+    Ok(Cond::Less(first, second))
 }
 
 #[tactic(auto, unfolding(dg_decl::specs::ExpressionForms::has))]
@@ -447,7 +486,8 @@ pub fn condition(
     depth: usize,
     budget: usize,
 ) -> Result<Cond, FormFault>
-    ensures exact { Gives (budgets.condition_to (budgets.expression_to depth) budget tokens.old) result tokens.new }
+    ensures exact { Gives (budgets.condition_to (budgets.expression_to depth) budget tokens.old)
+        result tokens.new }
 {
     if tokens.comes_call(b"has") {
         has(alloc, tokens)
@@ -467,19 +507,16 @@ fn choice(
     depth: usize,
     budget: usize,
 ) -> Result<Expr, FormFault>
-    ensures exact { Gives (budgets.choice_to (budgets.expression_to depth) budget tokens.old) result tokens.new }
+    ensures exact { Gives (budgets.choice_to (budgets.expression_to depth) budget tokens.old)
+        result tokens.new }
 {
     word(tokens, b"if")?;
-    let cond = condition(alloc, tokens, depth, budget)?;
+    let cond = Boxed::new(alloc, condition(alloc, tokens, depth, budget)?)?;
     word(tokens, b"then")?;
-    let yes = expression(alloc, tokens, depth, budget)?;
+    let yes = Boxed::new(alloc, expression(alloc, tokens, depth, budget)?)?;
     word(tokens, b"else")?;
-    let no = expression(alloc, tokens, depth, budget)?;
-    Ok(Expr::If {
-        cond: Boxed::new(alloc, cond)?,
-        yes: Boxed::new(alloc, yes)?,
-        no: Boxed::new(alloc, no)?,
-    })
+    let no = Boxed::new(alloc, expression(alloc, tokens, depth, budget)?)?;
+    Ok(Expr::If { cond, yes, no })
 }
 
 /// EXPR over those within it.
@@ -491,7 +528,8 @@ fn whole(
     depth: usize,
     budget: usize,
 ) -> Result<Expr, FormFault>
-    ensures exact { Gives (budgets.whole_to (budgets.expression_to depth) budget tokens.old) result tokens.new }
+    ensures exact { Gives (budgets.whole_to (budgets.expression_to depth) budget tokens.old)
+        result tokens.new }
 {
     if tokens.comes(TokenKind::Word, b"if") {
         choice(alloc, tokens, depth, budget.saturating_sub(1))

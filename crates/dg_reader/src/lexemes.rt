@@ -1,6 +1,7 @@
 //! The tokens of a line, one after another.
 
-ghost use Rattle.std.specs.Prelude.{◌≡◌, ◌≤◌, ◌==◌, not, if◌then◌else◌, Some, false, drop, length, codes, IfErr};
+ghost use Rattle.std.specs.Prelude.{◌≡◌, ◌≤◌, ◌==◌, not, if◌then◌else◌, Some, false, drop, length};
+ghost use Rattle.std.specs.Prelude.{codes, IfErr};
 ghost use Rattle.std.specs.List.{prefix_len};
 ghost use Rattle.dg_lex.specs.Lexemes as lexemes;
 ghost use Rattle.dg_lex.specs.declared.token.TokenKind.TheVariants as kind;
@@ -31,14 +32,23 @@ impl<'a> Model for Lexemes<'a> {
 }
 
 fn is_spelled(line: &[u8], token: &Token, kind: TokenKind, spelled: &[u8]) -> bool
-    ensures exact { result ≡ readers.is_spelled kind spelled.now (lexemes.lexeme_of line.now token.now) }
+    ensures exact { result ≡ readers.is_spelled kind spelled.now (lexemes.lexeme_of line.now
+        token.now) }
 {
     token.kind == kind && spelling(line, token) == spelled
 }
 
+fn tokens_behind(tokens: &[Token], count: usize) -> &[Token]
+    requires { count ≤ length tokens.now }
+    ensures exact { result.now ≡ drop count tokens.now }
+{
+    &tokens[count..]
+}
+
 /// How many `(` stand in front, one behind another.
 fn opens(line: &[u8], tokens: &[Token]) -> usize
-    ensures exact { result ≡ prefix_len (readers.is_spelled kind.Sign (codes "(")) (lexemes.lexemes line.now tokens.now) }
+    ensures exact { result ≡ prefix_len (readers.is_spelled kind.Sign (codes "("))
+        (lexemes.lexemes line.now tokens.now) }
 {
     let mut rest = tokens;
     let mut count = 0;
@@ -54,7 +64,9 @@ fn opens(line: &[u8], tokens: &[Token]) -> usize
 
 /// Whether what stands in parentheses goes on behind a token.
 fn is_inside(line: &[u8], token: &Token, inside: bool) -> bool
-    ensures exact { result ≡ (if inside then not (readers.is_spelled kind.Sign (codes ")") (lexemes.lexeme_of line.now token.now)) else readers.is_spelled kind.Sign (codes "(") (lexemes.lexeme_of line.now token.now)) }
+    ensures exact { result ≡ (if inside then not (readers.is_spelled kind.Sign (codes ")")
+        (lexemes.lexeme_of line.now token.now)) else readers.is_spelled kind.Sign (codes "(")
+        (lexemes.lexeme_of line.now token.now)) }
 {
     if inside {
         !is_spelled(line, token, TokenKind::Sign, b")")
@@ -113,7 +125,13 @@ impl<'a> Lexemes<'a> {
     }
 
     /// Whether such a name comes next, and `(` behind it.
-    #[tactic(auto, unfolding(dg_decl::specs::ExpressionForms::comes_call, dg_decl::specs::Readers::comes))]
+    #[tactic(
+        auto,
+        unfolding(
+            dg_decl::specs::ExpressionForms::comes_call,
+            dg_decl::specs::Readers::comes
+        )
+    )]
     pub fn comes_call(&self, name: &[u8]) -> bool
         ensures exact { result ≡ forms.comes_call name.now self.now }
     {
@@ -153,13 +171,14 @@ impl<'a> Lexemes<'a> {
         requires { count ≤ length self.old }
         ensures exact { self.new ≡ drop count self.old }
     {
-        self.tokens = &self.tokens[count..];
+        self.tokens = tokens_behind(self.tokens, count);
     }
 
     /// Takes the next token, which has this kind and spelling.
     #[tactic(auto, unfolding(dg_decl::specs::Readers::taken))]
     pub fn take(&mut self, kind: TokenKind, spelled: &[u8]) -> Result<(), FormFault>
-        ensures exact { GivesBy (λ _. tt) (readers.taken kind spelled.now self.old) result self.new }
+        ensures exact { GivesBy (λ _. tt) (readers.taken kind spelled.now self.old) result
+            self.new }
         ensures cause { IfErr result (λ e. e ≡ fault.NoForm) }
     {
         if !self.comes(kind, spelled) {

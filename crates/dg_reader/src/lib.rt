@@ -21,3 +21,6 @@ mod types;
 
 pub use document::read_doc;
 pub use fault::ReadDocFault;
+
+#[cfg(test)]
+mod tests;

@@ -110,7 +110,8 @@ pub fn class_line(alloc: Global, tokens: &mut Lexemes<'_>) -> Result<Item, FormF
 /// [@InstallIn(N)]
 #[tactic(auto, unfolding(dg_decl::specs::Readers::optional))]
 fn install(alloc: Global, tokens: &mut Lexemes<'_>) -> Result<Option<Name>, FormFault>
-    ensures exact { Gives (readers.optional kind.AtName (codes "@InstallIn") (readers.enclosed readers.name) tokens.old) result tokens.new }
+    ensures exact { Gives (readers.optional kind.AtName (codes "@InstallIn") (readers.enclosed
+        readers.name) tokens.old) result tokens.new }
 {
     if tokens.eat(TokenKind::AtName, b"@InstallIn") {
         return Ok(Some(enclosed_name(alloc, tokens)?));

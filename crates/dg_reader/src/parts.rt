@@ -126,7 +126,8 @@ pub fn optional_name(
     tokens: &mut Lexemes<'_>,
     word: &[u8],
 ) -> Result<Option<Name>, FormFault>
-    ensures exact { Gives (readers.optional kind.Name word.now readers.name tokens.old) result tokens.new }
+    ensures exact { Gives (readers.optional kind.Name word.now readers.name tokens.old) result
+        tokens.new }
 {
     if tokens.eat(TokenKind::Name, word) {
         return Ok(Some(name(alloc, tokens)?));

@@ -28,7 +28,8 @@ fn open_arg(alloc: Global, tokens: &mut Lexemes<'_>) -> Result<OpenArg, FormFaul
 
 /// One argument or more, with commas between.
 fn open_arg_list(alloc: Global, tokens: &mut Lexemes<'_>) -> Result<Items<OpenArg>, FormFault>
-    ensures exact { Gives (readers.list_of forms.open_arg readers.list_limit tokens.old) result tokens.new }
+    ensures exact { Gives (readers.list_of forms.open_arg readers.list_limit tokens.old) result
+        tokens.new }
 {
     let mut found = Items::new(alloc);
     for _turn in 0..LIST_LIMIT {

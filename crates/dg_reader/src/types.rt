@@ -40,7 +40,8 @@ fn constructed(
     constructor: &Name,
     depth: usize,
 ) -> Result<Shape, FormFault>
-    ensures exact { Gives (types.constructed (types.type_within depth) constructor.now tokens.old) result tokens.new }
+    ensures exact { Gives (types.constructed (types.type_within depth) constructor.now
+        tokens.old) result tokens.new }
 {
     if constructor.is(b"Set") {
         let t = type_within(alloc, tokens, depth)?;
@@ -175,7 +176,8 @@ pub fn enclosed_param(alloc: Global, tokens: &mut Lexemes<'_>) -> Result<Param, 
 
 /// One parameter or more, with commas between.
 fn param_list(alloc: Global, tokens: &mut Lexemes<'_>) -> Result<Items<Param>, FormFault>
-    ensures exact { Gives (readers.list_of types.param readers.list_limit tokens.old) result tokens.new }
+    ensures exact { Gives (readers.list_of types.param readers.list_limit tokens.old) result
+        tokens.new }
 {
     let mut found = Items::new(alloc);
     for _turn in 0..LIST_LIMIT {
@@ -187,7 +189,13 @@ fn param_list(alloc: Global, tokens: &mut Lexemes<'_>) -> Result<Items<Param>, F
     Err(FormFault::NoForm)
 }
 
-#[tactic(auto, unfolding(dg_decl::specs::TypeForms::params, dg_decl::specs::Readers::in_parentheses))]
+#[tactic(
+    auto,
+    unfolding(
+        dg_decl::specs::TypeForms::params,
+        dg_decl::specs::Readers::in_parentheses
+    )
+)]
 pub fn params(alloc: Global, tokens: &mut Lexemes<'_>) -> Result<Items<Param>, FormFault>
     ensures exact { Gives (types.params tokens.old) result tokens.new }
 {

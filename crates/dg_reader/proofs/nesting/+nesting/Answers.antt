@@ -1,10 +1,12 @@
 use Rattle.std.proofs.Common.{◌-◌, map, max, ◌∙◌, arith}
 use Rattle.dg_decl.specs.ExpressionForms as forms
 use Rattle.dg_decl.proofs.WrittenEquations as eq
-use Rattle.dg_reader.proofs.NestingLemmas.{nests, condition_nests, no_limit, no_part, one_part, two_parts, both_tests, all_tests}
+use Rattle.dg_reader.proofs.NestingLemmas.{nests, condition_nests, no_limit, no_part, one_part}
+use Rattle.dg_reader.proofs.NestingLemmas.{two_parts, both_tests, all_tests}
 use Rattle.dg_reader.proofs.nesting.+nesting.Goals as goal
 
-pub condition_nests_within-returns-then-limit-eq0 : goal.condition_nests_within-returns-then-limit-eq0
+pub condition_nests_within-returns-then-limit-eq0 :
+    goal.condition_nests_within-returns-then-limit-eq0
 condition_nests_within-returns-then-limit-eq0 t c =
     record { exact = no_limit _ c.args.limit (condition_nests c.args.c.now) c.if-limit-eq0.true }
 

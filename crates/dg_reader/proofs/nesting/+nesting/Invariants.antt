@@ -6,7 +6,8 @@ use Rattle.dg_reader.proofs.nesting.+nesting.Given as goal
 
 -- those so far nest no deeper
 abbrev pub invariant-all_nest_within-loop-e : goal.invariant-all_nest_within-loop-e
-invariant-all_nest_within-loop-e l = list_all (λ x. nat_le (forms.nesting x) l.limit) (take l.e-index l.es) ≡ true
+invariant-all_nest_within-loop-e l = list_all (λ x. nat_le (forms.nesting x) l.limit) (take
+    l.e-index l.es) ≡ true
 
 abbrev pub decreases-nests_within : goal.decreases-nests_within
 decreases-nests_within l = 2 * l.limit

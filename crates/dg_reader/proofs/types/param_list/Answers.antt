@@ -7,13 +7,15 @@ use Rattle.dg_reader.proofs.types.param_list.Goals as goal
 
 pub loop-turn-init : goal.loop-turn-init
 loop-turn-init c =
-    rw c.new-found.ensures (begins (readers.list_of types.param readers.list_limit c.args.tokens.now))
+    rw c.new-found.ensures (begins (readers.list_of types.param readers.list_limit
+        c.args.tokens.now))
 
 pub returns-in_err-param : goal.returns-in_err-param
 returns-in_err-param c =
     let p = err_from_is_err_and c.from_residual.result c.from_residual.ensures.1 in
     record {
-      exact = rw (p.1, p.2) (fails types.param c.loop-turn.found readers.list_limit c.loop-turn._turn
+      exact = rw (p.1, p.2) (fails types.param c.loop-turn.found readers.list_limit
+          c.loop-turn._turn
           c.loop-turn.tokens c.param.new.tokens c.param.new.tokens c.in_err-param.field-0.0 _
           c.loop-turn-test.true c.in_err-param.ensures.exact c.loop-turn.invariant);
     }
@@ -37,6 +39,7 @@ loop-turn-preserved c =
 pub returns : goal.returns
 returns c =
     record {
-      exact = is_full types.param c.loop-turn.found readers.list_limit c.loop-turn._turn c.loop-turn.tokens
+      exact = is_full types.param c.loop-turn.found readers.list_limit c.loop-turn._turn
+          c.loop-turn.tokens
           _ c.loop-turn-test.false c.loop-turn.invariant;
     }
