@@ -6,12 +6,14 @@ use Rattle.std.specs.List.{list_all}
 use Rattle.std.proofs.lemmas.Bool.{leb-true, leb-false, le-leb, lt-leb}
 use Rattle.dg_decl.specs.declared.expression.Expr.{Expr}
 use Rattle.dg_decl.specs.declared.expression.Expr.TheVariants as expr
+use Rattle.dg_decl.specs.declared.expression.Tree.{Tree}
+use Rattle.dg_decl.specs.declared.expression.Tree.TheVariants as tree
 use Rattle.dg_decl.specs.declared.expression.Cond.{Cond}
 use Rattle.dg_decl.specs.declared.expression.Cond.TheVariants as cond
 use Rattle.dg_decl.specs.declared.expression.Cond.TheOpen.{Cond-F, Expr-F}
 use Rattle.dg_decl.specs.declared.expression.Cond.TheViews.{roll-Cond, roll-Expr}
 use Rattle.dg_decl.specs.declared.expression.Cond.TheFolds.{ind-Cond, ind-Expr, map-Cond, map-Expr}
-use Rattle.dg_decl.specs.ExpressionForms.{nesting, condition_nesting, greatest}
+use Rattle.dg_decl.specs.ExpressionForms.{nesting, condition_nesting, tree_nesting, greatest}
 use Rattle.dg_decl.proofs.WrittenEquations as eq
 
 abbrev Nests : Expr → Type 0
@@ -140,3 +142,6 @@ all_tests (e ∷ es) limit =
 
 pub await_test : (limit : ℕ) → nat_lt 0 limit ≡ nat_le 1 limit
 await_test limit = refl
+
+pub choice_nests : (t : Tree) (c : Cond) (a b : Tree) → t ≡ tree.If c a b → 0 < tree_nesting t
+choice_nests t c a b is = rw (is, eq.tree_nesting-If c a b) (omega arith)

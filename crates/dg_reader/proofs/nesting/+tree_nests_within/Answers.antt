@@ -2,14 +2,14 @@ use Rattle.std.proofs.Common.{◌≡◌, ◌<◌, ◌-◌, max, subst, sym, ◌�
 use Rattle.dg_decl.specs.declared.expression.Tree.{Tree}
 use Rattle.dg_decl.specs.ExpressionForms as forms
 use Rattle.dg_decl.proofs.WrittenEquations as eq
-use Rattle.dg_reader.proofs.NestingLemmas.{no_limit, two_parts, both_tests, await_test}
+use Rattle.dg_reader.proofs.NestingLemmas.{no_limit, two_parts, both_tests, await_test, choice_nests}
 use Rattle.dg_reader.proofs.nesting.+tree_nests_within.Goals as goal
 
 pub returns-then-limit-eq0 : goal.returns-then-limit-eq0
 returns-then-limit-eq0 t c =
-    let is : forms.tree_nesting c.args.t.now ≡ _ = rw c.in-If.is (eq.tree_nesting-If _ _ _) in
     record {
-      exact = no_limit (forms.tree_nesting c.args.t.now) c.args.limit (omega (arith, is))
+      exact = no_limit (forms.tree_nesting c.args.t.now) c.args.limit
+          (choice_nests c.args.t.now c.in-If.cond c.in-If.yes c.in-If.no c.in-If.is)
           c.if-limit-eq0.true;
     }
 

@@ -35,3 +35,19 @@ loop-turn-preserved c =
         c.loop-turn._turn c.loop-turn.tokens c.ask_step.new.tokens c.in_ok-ask_step.field-0 _
         c.loop-turn-test.true (sym c.is_empty.ensures.exact ∙ c.if-is_empty.false)
         c.in_ok-ask_step.ensures.exact c.loop-turn.invariant)
+
+pub returns-then-not-is_empty : goal.returns-then-not-is_empty
+returns-then-not-is_empty c =
+    record {
+      exact = steps_are_full c.loop-turn.found readers.list_limit c.loop-turn._turn
+          c.loop-turn.tokens _ c.loop-turn-test.false
+          (sym c.is_empty-2.ensures.exact ∙ c.if-not-is_empty.true) c.loop-turn.invariant;
+    }
+
+pub returns : goal.returns
+returns c =
+    record {
+      exact = steps_end c.loop-turn.found readers.list_limit c.loop-turn._turn
+          c.loop-turn.tokens _ (sym c.is_empty-2.ensures.exact ∙ c.if-not-is_empty.false)
+          c.loop-turn.invariant;
+    }

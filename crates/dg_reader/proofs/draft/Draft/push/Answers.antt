@@ -3,8 +3,8 @@ use Rattle.std.proofs.lemmas.Grind.{common_steps}
 use Rattle.dg_reader.proofs.DraftLemmas.{draft_behind}
 use Rattle.dg_reader.proofs.draft.Draft.push.Goals as goal
 
-pub invariant_of-self : goal.invariant_of-self
-invariant_of-self c =
+pub invariant_of-self-2 : goal.invariant_of-self-2
+invariant_of-self-2 c =
     let items = c.self.inside.items.items in
     let count : c.len.result ≡ length items = grind (arith, common_steps) in
     draft_behind items c.push.new.self.items c.args.item c.self.inside.header
