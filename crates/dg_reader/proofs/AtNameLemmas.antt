@@ -82,7 +82,7 @@ pub names_go_on : (found : List Bytes) (ls : List Lexeme) (x : Bytes) (after : L
     → with_front found (at_names ls) ≡ total → with_front (found ++ x ∷ []) (at_names after) ≡ total
 names_go_on found ls x after total is read so_far =
     sym (ap (with_front found) (first ls x after is read).names ∙ regroup found x (at_names after))
-        ∙ so_far
+    ∙ so_far
 
 pub names_fail : (found : List Bytes) (ls left new : List Lexeme) (e : FormFault) (total : ReadList
     Bytes) → comes_kind kind.AtName ls ≡ true → Gives (at_name ls) (Err e) left

@@ -82,9 +82,14 @@ headers_are : (doc : Doc) (index : ℕ) (block : Option ℕ) (items : List Item)
 headers_are doc index block [] = refl
 headers_are doc index block (x ∷ xs) =
     let later = headers_are doc (suc index) (open_behind block index x) xs in
-    counted_first (is_component x) record { index = index; line = slice_index doc.lines index; block
-        = block; item = x } (filter (λ s. is_component s.item) (statements_from doc (suc index)
-        (open_behind block index x) xs))
+    counted_first (is_component x) record {
+      index = index;
+      line = slice_index doc.lines index;
+      block
+          = block;
+      item = x;
+    } (filter (λ s. is_component s.item) (statements_from doc (suc index)
+    (open_behind block index x) xs))
     ∙ (ap (λ (n : ℕ). (if is_component x then 1 else 0) + n) later
     ∙ (ap (λ (b : Bool). (if b then 1 else 0) + count_by is_component_line xs) (same_kind x)
     ∙ sym (sum_by-cons (λ y. if is_component_line y then 1 else 0) x xs)))
@@ -97,8 +102,11 @@ pub is_bounded : (bytes : Bytes) (number : ℕ) (text : Bytes) (doc : Doc)
     → HasRead bytes number text doc.items doc.lines → number ≤ 4194304 → IsBounded doc
 is_bounded bytes number text doc read within =
     let lines = take number (lines_of bytes) in
-    let so_many : length lines ≡ number = omega (arith, length-take-le number (lines_of bytes)
-        read.count) in
+    let so_many : length lines ≡ number = omega (
+      arith,
+      length-take-le number (lines_of bytes)
+          read.count,
+    ) in
     let items : length doc.items ≤ length lines = rw read.items_are (fewer lines) in
     let few : count_by is_component_line doc.items ≤ component_limit = read.few in
     let eight : hilt_count ≡ 8 = refl in

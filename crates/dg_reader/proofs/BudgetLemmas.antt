@@ -80,7 +80,7 @@ within_any depth b (Some p) f g all = all p.0 p.1
 within_then : {A B : Type 0} (da : A → ℕ) (db : B → ℕ) (a b : ℕ) (tried read : Read A) (f g : A
     → Reader B) → Within da a tried read
     → ((x : A) (ls : List Lexeme) → Within db b (f x ls) (g x ls)) → ((x : A) (ls : List Lexeme)
-        → a < da x → Over db b (g x ls))
+    → a < da x → Over db b (g x ls))
     → Within db b (then_reads tried f) (then_reads read g)
 within_then da db a b None read f g within all over = over_then da db a b read g within over
 within_then da db a b (Some p) read f g within all over = rw within (all p.0 p.1)
@@ -127,15 +127,15 @@ list_within b inner e tried zero ls = tt
 list_within b inner e tried (suc n) ls =
     within_then nesting deepest b b (inner ls) (e ls) _ _ (tried ls)
     (λ x ls. within_any deepest b (eaten kind.Sign (codes ",") ls) _ _
-        (λ more ls. within_case deepest b more _ _ _ _ ls
-            (within_then deepest deepest b b (list_of inner n ls) (list_of e n ls) _ _ (list_within
-                b inner e tried n ls)
-                (λ xs ls. refl) (λ xs ls lt. omega (arith, lt)))
-            refl))
+    (λ more ls. within_case deepest b more _ _ _ _ ls
+    (within_then deepest deepest b b (list_of inner n ls) (list_of e n ls) _ _ (list_within
+    b inner e tried n ls)
+    (λ xs ls. refl) (λ xs ls lt. omega (arith, lt)))
+    refl))
     (λ x ls lt. over_any deepest b (eaten kind.Sign (codes ",") ls) _
-        (λ more ls. over_case deepest b more _ _ ls
-            (over_any deepest b (list_of e n ls) _ (λ xs ls. omega (arith, lt)))
-            (omega (arith, lt))))
+    (λ more ls. over_case deepest b more _ _ ls
+    (over_any deepest b (list_of e n ls) _ (λ xs ls. omega (arith, lt)))
+    (omega (arith, lt))))
 
 -- ---- parts in parentheses
 
@@ -146,8 +146,8 @@ unfolding enclosed
 enclosed_within depth b tried e within ls =
     within_any depth b (taken kind.Sign (codes "(") ls) _ _
     (λ u ls. within_then depth depth b b (tried ls) (e ls) _ _ (within ls)
-        (λ x ls. same depth b _)
-        (λ x ls lt. over_any depth b (taken kind.Sign (codes ")") ls) _ (λ u ls. lt)))
+    (λ x ls. same depth b _)
+    (λ x ls lt. over_any depth b (taken kind.Sign (codes ")") ls) _ (λ u ls. lt)))
 
 some_within : (b : ℕ) (inner e : Reader Expr) → IsTried b inner e → (ls : List Lexeme)
     → Within deepest b (some_in_parentheses inner ls) (some_in_parentheses e ls)
@@ -161,12 +161,12 @@ unfolding in_parentheses
 parentheses_within b inner e tried ls =
     within_any deepest b (taken kind.Sign (codes "(") ls) _ _
     (λ u ls. within_any deepest b (eaten kind.Sign (codes ")") ls) _ _
-        (λ none ls. within_case deepest b none _ _ _ _ ls
-            refl
-            (within_then deepest deepest b b (list_of inner list_limit ls) (list_of e list_limit ls)
-                _ _ (list_within b inner e tried list_limit ls)
-                (λ xs ls. same deepest b _)
-                (λ xs ls lt. over_any deepest b (taken kind.Sign (codes ")") ls) _ (λ u ls. lt)))))
+    (λ none ls. within_case deepest b none _ _ _ _ ls
+    refl
+    (within_then deepest deepest b b (list_of inner list_limit ls) (list_of e list_limit ls)
+    _ _ (list_within b inner e tried list_limit ls)
+    (λ xs ls. same deepest b _)
+    (λ xs ls lt. over_any deepest b (taken kind.Sign (codes ")") ls) _ (λ u ls. lt)))))
 
 -- ---- forms with expressions in them
 
@@ -183,17 +183,17 @@ unfolding object
 object_within b inner e tried ls =
     within_any nesting (suc b) (taken kind.Word (codes "new") ls) _ _
     (λ u ls. within_any nesting (suc b) (name ls) _ _
-        (λ c ls. within_then deepest nesting b (suc b) (in_parentheses inner ls) (in_parentheses e
-            ls) _ _ (parentheses_within b inner e tried ls)
-            (λ xs ls. refl)
-            (λ xs ls lt. new_over b c xs lt)))
+    (λ c ls. within_then deepest nesting b (suc b) (in_parentheses inner ls) (in_parentheses e
+    ls) _ _ (parentheses_within b inner e tried ls)
+    (λ xs ls. refl)
+    (λ xs ls lt. new_over b c xs lt)))
 
 one_within : (b : ℕ) (f : CallName) (inner e : Reader Expr) → IsTried b inner e
     → IsTried (suc b) (call_of_one f inner) (call_of_one f e)
 unfolding call_of_one
 one_within b f inner e tried ls =
     within_then nesting nesting b (suc b) (enclosed inner ls) (enclosed e ls) _ _ (enclosed_within
-        nesting b inner e tried ls)
+    nesting b inner e tried ls)
     (λ x ls. refl)
     (λ x ls lt. call_over b f (x ∷ []) (omega (arith, lt)))
 
@@ -203,30 +203,30 @@ unfolding or_else
 or_else_within b inner e tried ls =
     within_any nesting (suc b) (taken kind.Sign (codes "(") ls) _ _
     (λ u ls. within_any nesting (suc b) (name ls) _ _
-        (λ p ls. within_any nesting (suc b) (taken kind.Sign (codes ",") ls) _ _
-            (λ u ls. within_then nesting nesting b (suc b) (inner ls) (e ls) _ _ (tried ls)
-                (λ x ls. same nesting (suc b) _)
-                (λ x ls lt. over_any nesting (suc b) (taken kind.Sign (codes ")") ls) _
-                    (λ u ls. rw (eq.nesting-OrElse p x) (omega (arith, lt)))))))
+    (λ p ls. within_any nesting (suc b) (taken kind.Sign (codes ",") ls) _ _
+    (λ u ls. within_then nesting nesting b (suc b) (inner ls) (e ls) _ _ (tried ls)
+    (λ x ls. same nesting (suc b) _)
+    (λ x ls lt. over_any nesting (suc b) (taken kind.Sign (codes ")") ls) _
+    (λ u ls. rw (eq.nesting-OrElse p x) (omega (arith, lt)))))))
 
 call_of_within : (b : ℕ) (inner e : Reader Expr) → IsTried b inner e → (n : Bytes)
     → IsTried (suc b) (call_of inner n) (call_of e n)
 unfolding call_of
 call_of_within b inner e tried n ls =
     within_case nesting (suc b) (bytes_eq n (call_name call.Cat)) _ _ _ _ ls
-        (within_then deepest nesting b (suc b) (some_in_parentheses inner ls) (some_in_parentheses e
-            ls) _ _ (some_within b inner e tried ls)
-            (λ xs ls. refl) (λ xs ls lt. call_over b call.Cat xs lt))
+    (within_then deepest nesting b (suc b) (some_in_parentheses inner ls) (some_in_parentheses e
+    ls) _ _ (some_within b inner e tried ls)
+    (λ xs ls. refl) (λ xs ls lt. call_over b call.Cat xs lt))
     (within_case nesting (suc b) (bytes_eq n (call_name call.TextOf)) _ _ _ _ ls (one_within b
-        call.TextOf inner e tried ls)
+    call.TextOf inner e tried ls)
     (within_case nesting (suc b) (bytes_eq n (call_name call.Size)) _ _ _ _ ls (one_within b
-        call.Size inner e tried ls)
+    call.Size inner e tried ls)
     (within_case nesting (suc b) (bytes_eq n (call_name call.SetOf)) _ _ _ _ ls
-        (within_then deepest nesting b (suc b) (in_parentheses inner ls) (in_parentheses e ls) _ _
-            (parentheses_within b inner e tried ls)
-            (λ xs ls. refl) (λ xs ls lt. call_over b call.SetOf xs lt))
+    (within_then deepest nesting b (suc b) (in_parentheses inner ls) (in_parentheses e ls) _ _
+    (parentheses_within b inner e tried ls)
+    (λ xs ls. refl) (λ xs ls lt. call_over b call.SetOf xs lt))
     (within_case nesting (suc b) (bytes_eq n (call_name call.Fail)) _ _ _ _ ls (one_within b
-        call.Fail inner e tried ls)
+    call.Fail inner e tried ls)
     tt))))
 
 function_within : (b : ℕ) (inner e : Reader Expr) → IsTried b inner e → (n : Bytes)
@@ -234,15 +234,15 @@ function_within : (b : ℕ) (inner e : Reader Expr) → IsTried b inner e → (n
 unfolding function
 function_within b inner e tried n ls =
     within_case nesting (suc b) (bytes_eq n (param_call_name by.Get)) _ _ _ _ ls (same nesting (suc
-        b) _)
+    b) _)
     (within_case nesting (suc b) (bytes_eq n (param_call_name by.Value)) _ _ _ _ ls (same nesting
-        (suc b) _)
+    (suc b) _)
     (within_case nesting (suc b) (bytes_eq n (param_call_name by.Values)) _ _ _ _ ls (same nesting
-        (suc b) _)
+    (suc b) _)
     (within_case nesting (suc b) (bytes_eq n (param_call_name by.Failure)) _ _ _ _ ls (same nesting
-        (suc b) _)
+    (suc b) _)
     (within_case nesting (suc b) (bytes_eq n (codes "orElse")) _ _ _ _ ls (or_else_within b inner e
-        tried ls)
+    tried ls)
     (call_of_within b inner e tried n ls)))))
 
 named_within : (b : ℕ) (inner e : Reader Expr) → IsTried b inner e
@@ -251,7 +251,7 @@ unfolding named named_as
 named_within b inner e tried ls =
     within_any nesting (suc b) (name ls) _ _
     (λ n ls. within_if nesting (suc b) (comes kind.Sign (codes "(") ls) _ _ _ _ (function_within b
-        inner e tried n ls) refl)
+    inner e tried n ls) refl)
 
 -- ---- atoms
 
@@ -299,8 +299,13 @@ opens_next ls = comes kind.Sign (codes "(") ls
 atom_behind : (opens : Bool) (inner : Reader Expr) (ls : List Lexeme) → opens_next ls ≡ opens
     → atom inner ls ≡ (if opens then enclosed inner ls else plain_atom inner ls)
 unfolding atom plain_atom
-atom_behind true inner ls is = rw (no_kind (codes "(") kind.Text ls is refl, no_kind (codes "(")
-    kind.Integer ls is refl, no_word (codes "(") (codes "new") ls is, is) refl
+atom_behind true inner ls is = rw (
+  no_kind (codes "(") kind.Text ls is refl,
+  no_kind (codes "(")
+      kind.Integer ls is refl,
+  no_word (codes "(") (codes "new") ls is,
+  is,
+) refl
 atom_behind false inner ls is = rw is refl
 
 atom_parts : (inner : Reader Expr) (ls : List Lexeme)
@@ -314,7 +319,7 @@ plain_within b inner e tried ls =
     within_if nesting (suc b) (comes_kind kind.Text ls) _ _ _ _ (same nesting (suc b) _)
     (within_if nesting (suc b) (comes_kind kind.Integer ls) _ _ _ _ (same nesting (suc b) _)
     (within_if nesting (suc b) (comes kind.Word (codes "new") ls) _ _ _ _ (object_within b inner e
-        tried ls) (named_within b inner e tried ls)))
+    tried ls) (named_within b inner e tried ls)))
 
 less : {A : Type 0} (depth : A → ℕ) (b c : ℕ) (tried read : Read A) → b ≤ c
     → Within depth c tried read → Within depth b tried read
@@ -331,41 +336,41 @@ atom_within : (inner : Family) (e : Reader Expr) → IsFamily inner e → (b : �
 unfolding atom_to
 atom_within inner e family b ls =
     rw (atom_parts e ls) (within_if nesting b (opens_next ls) _ _ _ _
-        (enclosed_within nesting b (inner b) e (family b) ls)
-        (less nesting b (suc (b - 1)) _ _ (omega arith) (plain_within (b - 1) (inner (b - 1)) e
-            (family (b - 1)) ls)))
+    (enclosed_within nesting b (inner b) e (family b) ls)
+    (less nesting b (suc (b - 1)) _ _ (omega arith) (plain_within (b - 1) (inner (b - 1)) e
+    (family (b - 1)) ls)))
 
 -- ---- rows
 
 row_over : {A : Type 0} (before : Bytes) (part : Reader A) (join : Expr → A → Expr)
     → ((e : Expr) (x : A) → nesting e ≤ nesting (join e x))
     → (b n : ℕ) (e : Expr) (ls : List Lexeme) → b < nesting e
-        → Over nesting b (row_of before part join n e ls)
+    → Over nesting b (row_of before part join n e ls)
 unfolding row_of
 row_over before part join grows b zero e ls lt = lt
 row_over before part join grows b (suc n) e ls lt =
     over_any nesting b (eaten kind.Sign before ls) _
     (λ more ls. over_case nesting b more _ _ ls
-        (over_any nesting b (part ls) _ (λ x ls. row_over before part join grows b n (join e x) ls
-            (let le = grows e x in omega (arith, lt, le))))
-        lt)
+    (over_any nesting b (part ls) _ (λ x ls. row_over before part join grows b n (join e x) ls
+    (let le = grows e x in omega (arith, lt, le))))
+    lt)
 
 row_within : {A : Type 0} (before : Bytes) (tried part : Reader A) (join : Expr → A
     → Expr) (depth : A → ℕ) (a b : ℕ)
     → ((e : Expr) (x : A) → nesting e ≤ nesting (join e x)) → ((e : Expr) (x : A) → a < depth x
-        → b < nesting (join e x))
+    → b < nesting (join e x))
     → ((ls : List Lexeme) → Within depth a (tried ls) (part ls))
     → (n : ℕ) (e : Expr) (ls : List Lexeme) → Within nesting b (row_of before tried join n e ls)
-        (row_of before part join n e ls)
+    (row_of before part join n e ls)
 unfolding row_of
 row_within before tried part join depth a b grows deep within zero e ls = refl
 row_within before tried part join depth a b grows deep within (suc n) e ls =
     within_any nesting b (eaten kind.Sign before ls) _ _
     (λ more ls. within_case nesting b more _ _ _ _ ls
-        (within_then depth nesting a b (tried ls) (part ls) _ _ (within ls)
-            (λ x ls. row_within before tried part join depth a b grows deep within n (join e x) ls)
-            (λ x ls lt. row_over before part join grows b n (join e x) ls (deep e x lt)))
-        refl)
+    (within_then depth nesting a b (tried ls) (part ls) _ _ (within ls)
+    (λ x ls. row_within before tried part join depth a b grows deep within n (join e x) ls)
+    (λ x ls lt. row_over before part join grows b n (join e x) ls (deep e x lt)))
+    refl)
 
 field_grows : (e : Expr) (f : Bytes) → nesting e ≤ nesting (expr.Field e f)
 field_grows e f = rw (eq.nesting-Field e f) (omega arith)
@@ -383,7 +388,7 @@ prim_within : (inner : Family) (e : Reader Expr) → IsFamily inner e → (b : �
 unfolding prim_to prim
 prim_within inner e family b ls =
     within_then nesting nesting b b (atom_to inner b ls) (atom e ls) _ _ (atom_within inner e family
-        b ls)
+    b ls)
     (λ x ls. same nesting b _)
     (λ x ls lt. fields_over b nesting_limit x ls lt)
 
@@ -393,7 +398,7 @@ added_within : (inner : Family) (e : Reader Expr) → IsFamily inner e
 unfolding added_to added
 added_within inner e family b n x ls =
     row_within (codes "+") (prim_to inner (b - 1)) (prim e)
-        (λ a b. expr.Sum a b) nesting (b - 1) b sum_grows
+    (λ a b. expr.Sum a b) nesting (b - 1) b sum_grows
     (λ y z lt. rw (eq.nesting-Sum y z) (omega (arith, lt)))
     (prim_within inner e family (b - 1)) n x ls
 
@@ -407,7 +412,7 @@ sum_within : (inner : Family) (e : Reader Expr) → IsFamily inner e → (b : �
 unfolding sum_to sum
 sum_within inner e family b ls =
     within_then nesting nesting b b (prim_to inner b ls) (prim e ls) _ _ (prim_within inner e family
-        b ls)
+    b ls)
     (λ x ls. added_within inner e family b nesting_limit x ls)
     (λ x ls lt. added_over e b nesting_limit x ls lt)
 
@@ -426,25 +431,25 @@ comparison_within : (inner : Family) (e : Reader Expr) → IsFamily inner e → 
 unfolding comparison_to comparison
 comparison_within inner e family a b le ls =
     within_then nesting condition_nesting a b (sum_to inner a ls) (sum e ls) _ _ (sum_within inner e
-        family a ls)
+    family a ls)
     (λ x ls. within_any condition_nesting b (eaten kind.Sign (codes "==") ls) _ _
-        (λ equal ls. within_case condition_nesting b equal _ _ _ _ ls
-            (within_then nesting condition_nesting a b (sum_to inner a ls) (sum e ls) _ _
-                (sum_within inner e family a ls)
-                (λ y ls. refl)
-                (λ y ls lt. rw (eq.nesting-Equal x y) (omega (arith, le, lt))))
-            (within_then nesting condition_nesting a b (less_than (sum_to inner a) ls) (less_than
-                (sum e) ls) _ _
-                (within_any nesting a (taken kind.Sign (codes "<") ls) _ _
-                    (λ u ls. sum_within inner e family a ls))
-                (λ y ls. refl)
-                (λ y ls lt. rw (eq.nesting-Less x y) (omega (arith, le, lt))))))
+    (λ equal ls. within_case condition_nesting b equal _ _ _ _ ls
+    (within_then nesting condition_nesting a b (sum_to inner a ls) (sum e ls) _ _
+    (sum_within inner e family a ls)
+    (λ y ls. refl)
+    (λ y ls lt. rw (eq.nesting-Equal x y) (omega (arith, le, lt))))
+    (within_then nesting condition_nesting a b (less_than (sum_to inner a) ls) (less_than
+    (sum e) ls) _ _
+    (within_any nesting a (taken kind.Sign (codes "<") ls) _ _
+    (λ u ls. sum_within inner e family a ls))
+    (λ y ls. refl)
+    (λ y ls lt. rw (eq.nesting-Less x y) (omega (arith, le, lt))))))
     (λ x ls lt. over_any condition_nesting b (eaten kind.Sign (codes "==") ls) _
-        (λ equal ls. over_case condition_nesting b equal _ _ ls
-            (over_any condition_nesting b (sum e ls) _
-                (λ y ls. rw (eq.nesting-Equal x y) (omega (arith, le, lt))))
-            (over_any condition_nesting b (less_than (sum e) ls) _
-                (λ y ls. rw (eq.nesting-Less x y) (omega (arith, le, lt))))))
+    (λ equal ls. over_case condition_nesting b equal _ _ ls
+    (over_any condition_nesting b (sum e ls) _
+    (λ y ls. rw (eq.nesting-Equal x y) (omega (arith, le, lt))))
+    (over_any condition_nesting b (less_than (sum e) ls) _
+    (λ y ls. rw (eq.nesting-Less x y) (omega (arith, le, lt))))))
 
 condition_within : (inner : Family) (e : Reader Expr) → IsFamily inner e
     → (b : ℕ) (ls : List Lexeme) → Within condition_nesting b (condition_to inner b ls) (condition e
@@ -461,22 +466,22 @@ unfolding choice_to choice
 choice_within inner e family b ls =
     within_any nesting (suc b) (taken kind.Word (codes "if") ls) _ _
     (λ u ls. within_then condition_nesting nesting b (suc b) (condition_to inner b ls) (condition e
-        ls) _ _ (condition_within inner e family b ls)
-        (λ c ls. within_any nesting (suc b) (taken kind.Word (codes "then") ls) _ _
-            (λ u ls. within_then nesting nesting b (suc b) (inner b ls) (e ls) _ _ (family b ls)
-                (λ x ls. within_any nesting (suc b) (taken kind.Word (codes "else") ls) _ _
-                    (λ u ls. within_then nesting nesting b (suc b) (inner b ls) (e ls) _ _ (family b
-                        ls)
-                        (λ y ls. refl)
-                        (λ y ls lt. rw (eq.nesting-If c x y) (omega (arith, lt)))))
-                (λ x ls lt. over_any nesting (suc b) (taken kind.Word (codes "else") ls) _
-                    (λ u ls. over_any nesting (suc b) (e ls) _
-                    (λ y ls. rw (eq.nesting-If c x y) (omega (arith, lt)))))))
-        (λ c ls lt. over_any nesting (suc b) (taken kind.Word (codes "then") ls) _
-            (λ u ls. over_any nesting (suc b) (e ls) _
-            (λ x ls. over_any nesting (suc b) (taken kind.Word (codes "else") ls) _
-                (λ u ls. over_any nesting (suc b) (e ls) _
-                (λ y ls. rw (eq.nesting-If c x y) (omega (arith, lt)))))))) 
+    ls) _ _ (condition_within inner e family b ls)
+    (λ c ls. within_any nesting (suc b) (taken kind.Word (codes "then") ls) _ _
+    (λ u ls. within_then nesting nesting b (suc b) (inner b ls) (e ls) _ _ (family b ls)
+    (λ x ls. within_any nesting (suc b) (taken kind.Word (codes "else") ls) _ _
+    (λ u ls. within_then nesting nesting b (suc b) (inner b ls) (e ls) _ _ (family b
+    ls)
+    (λ y ls. refl)
+    (λ y ls lt. rw (eq.nesting-If c x y) (omega (arith, lt)))))
+    (λ x ls lt. over_any nesting (suc b) (taken kind.Word (codes "else") ls) _
+    (λ u ls. over_any nesting (suc b) (e ls) _
+    (λ y ls. rw (eq.nesting-If c x y) (omega (arith, lt)))))))
+    (λ c ls lt. over_any nesting (suc b) (taken kind.Word (codes "then") ls) _
+    (λ u ls. over_any nesting (suc b) (e ls) _
+    (λ x ls. over_any nesting (suc b) (taken kind.Word (codes "else") ls) _
+    (λ u ls. over_any nesting (suc b) (e ls) _
+    (λ y ls. rw (eq.nesting-If c x y) (omega (arith, lt))))))))
 
 whole_within : (inner : Family) (e : Reader Expr) → IsFamily inner e → (b : ℕ)
     → IsTried b (whole_to inner b) (whole e)
@@ -509,7 +514,7 @@ leaf_within : (ls : List Lexeme) → Within tree_nesting nesting_limit (leaf_to 
 unfolding leaf_to leaf
 leaf_within ls =
     within_then nesting tree_nesting nesting_limit nesting_limit (sum_to of_tree nesting_limit ls)
-        (sum expression ls) _ _ (sum_within of_tree expression tree_family nesting_limit ls)
+    (sum expression ls) _ _ (sum_within of_tree expression tree_family nesting_limit ls)
     (λ x ls. refl)
     (λ x ls lt. rw (eq.tree_nesting-Leaf x) lt)
 
@@ -520,25 +525,25 @@ unfolding tree_choice_to tree_choice
 tree_choice_within inner t tried ls =
     within_any tree_nesting nesting_limit (taken kind.Word (codes "if") ls) _ _
     (λ u ls. within_then condition_nesting tree_nesting nesting_limit nesting_limit (condition_to
-        of_tree nesting_limit ls) (condition expression ls) _ _ (condition_within of_tree expression
-        tree_family nesting_limit ls)
-        (λ c ls. within_any tree_nesting nesting_limit (taken kind.Word (codes "then") ls) _ _
-            (λ u ls. within_then tree_nesting tree_nesting nesting_limit nesting_limit (inner ls) (t
-                ls) _ _ (tried ls)
-                (λ x ls. within_any tree_nesting nesting_limit (taken kind.Word (codes "else") ls) _
-                    _
-                    (λ u ls. within_then tree_nesting tree_nesting nesting_limit nesting_limit
-                        (inner ls) (t ls) _ _ (tried ls)
-                        (λ y ls. refl)
-                        (λ y ls lt. rw (eq.tree_nesting-If c x y) (omega (arith, lt)))))
-                (λ x ls lt. over_any tree_nesting nesting_limit (taken kind.Word (codes "else") ls)
-                    _ (λ u ls. over_any tree_nesting nesting_limit (t ls) _
-                    (λ y ls. rw (eq.tree_nesting-If c x y) (omega (arith, lt)))))))
-        (λ c ls lt. over_any tree_nesting nesting_limit (taken kind.Word (codes "then") ls) _
-            (λ u ls. over_any tree_nesting nesting_limit (t ls) _
-            (λ x ls. over_any tree_nesting nesting_limit (taken kind.Word (codes "else") ls) _
-                (λ u ls. over_any tree_nesting nesting_limit (t ls) _
-                (λ y ls. rw (eq.tree_nesting-If c x y) (omega (arith, lt))))))))
+    of_tree nesting_limit ls) (condition expression ls) _ _ (condition_within of_tree expression
+    tree_family nesting_limit ls)
+    (λ c ls. within_any tree_nesting nesting_limit (taken kind.Word (codes "then") ls) _ _
+    (λ u ls. within_then tree_nesting tree_nesting nesting_limit nesting_limit (inner ls) (t
+    ls) _ _ (tried ls)
+    (λ x ls. within_any tree_nesting nesting_limit (taken kind.Word (codes "else") ls) _
+    _
+    (λ u ls. within_then tree_nesting tree_nesting nesting_limit nesting_limit
+    (inner ls) (t ls) _ _ (tried ls)
+    (λ y ls. refl)
+    (λ y ls lt. rw (eq.tree_nesting-If c x y) (omega (arith, lt)))))
+    (λ x ls lt. over_any tree_nesting nesting_limit (taken kind.Word (codes "else") ls)
+    _ (λ u ls. over_any tree_nesting nesting_limit (t ls) _
+    (λ y ls. rw (eq.tree_nesting-If c x y) (omega (arith, lt)))))))
+    (λ c ls lt. over_any tree_nesting nesting_limit (taken kind.Word (codes "then") ls) _
+    (λ u ls. over_any tree_nesting nesting_limit (t ls) _
+    (λ x ls. over_any tree_nesting nesting_limit (taken kind.Word (codes "else") ls) _
+    (λ u ls. over_any tree_nesting nesting_limit (t ls) _
+    (λ y ls. rw (eq.tree_nesting-If c x y) (omega (arith, lt))))))))
 
 tree_within_budget : (depth : ℕ) (ls : List Lexeme)
     → Within tree_nesting nesting_limit (tree_to depth ls) (tree_within depth ls)
@@ -546,9 +551,9 @@ unfolding tree_to tree_within tree_over_to tree_over
 tree_within_budget zero ls = tt
 tree_within_budget (suc depth) ls =
     within_if tree_nesting nesting_limit (comes kind.Word (codes "if") ls) _ _ _ _
-        (tree_choice_within (tree_to depth) (tree_within depth) (tree_within_budget depth) ls)
+    (tree_choice_within (tree_to depth) (tree_within depth) (tree_within_budget depth) ls)
     (within_if tree_nesting nesting_limit (comes kind.Word (codes "await") ls) _ _ _ _ (same
-        tree_nesting nesting_limit _) (leaf_within ls))
+    tree_nesting nesting_limit _) (leaf_within ls))
 
 -- ---- bodies
 
@@ -577,8 +582,8 @@ unfolding body expression
 body_none ls none =
     let within = expression_within_budget line_limit nesting_limit ls in
     nested_none nesting (expression_within line_limit) ls (subst
-        (λ (tried : Read Expr). Within nesting nesting_limit tried (expression_within line_limit
-        ls)) none within)
+    (λ (tried : Read Expr). Within nesting nesting_limit tried (expression_within line_limit
+    ls)) none within)
 
 body_is : (ls rest : List Lexeme) (e : Expr) (fits : Bool)
     → expression_to line_limit nesting_limit ls ≡ Some (e, rest)
@@ -587,16 +592,16 @@ unfolding body expression
 body_is ls rest e fits read is =
     let within = expression_within_budget line_limit nesting_limit ls in
     nested_some nesting (expression_within line_limit) ls rest e fits (subst
-        (λ (tried : Read Expr). Within nesting nesting_limit tried (expression_within line_limit
-        ls)) read within) is
+    (λ (tried : Read Expr). Within nesting nesting_limit tried (expression_within line_limit
+    ls)) read within) is
 
 tree_body_none : (ls : List Lexeme) → tree_to nesting_limit ls ≡ None → tree_body ls ≡ None
 unfolding tree_body
 tree_body_none ls none =
     let within = tree_within_budget nesting_limit ls in
     nested_none tree_nesting (tree_within nesting_limit) ls (subst
-        (λ (tried : Read Tree). Within tree_nesting nesting_limit tried (tree_within nesting_limit
-        ls)) none within)
+    (λ (tried : Read Tree). Within tree_nesting nesting_limit tried (tree_within nesting_limit
+    ls)) none within)
 
 tree_body_is : (ls rest : List Lexeme) (t : Tree) (fits : Bool)
     → tree_to nesting_limit ls ≡ Some (t, rest) → fits ≡ nat_le (tree_nesting t) nesting_limit
@@ -605,8 +610,8 @@ unfolding tree_body
 tree_body_is ls rest t fits read is =
     let within = tree_within_budget nesting_limit ls in
     nested_some tree_nesting (tree_within nesting_limit) ls rest t fits (subst
-        (λ (tried : Read Tree). Within tree_nesting nesting_limit tried (tree_within nesting_limit
-        ls)) read within) is
+    (λ (tried : Read Tree). Within tree_nesting nesting_limit tried (tree_within nesting_limit
+    ls)) read within) is
 
 pub body_fails : (ls left new : List Lexeme) (e : FormFault)
     → Gives (expression_to line_limit nesting_limit ls) (Err e) left → Gives (body ls) (Err e) new

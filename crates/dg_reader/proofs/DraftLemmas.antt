@@ -38,7 +38,7 @@ still_below (Some index) n m le below = (let lt : index < n = below in omega (ar
 behind : (items : List Item) (x : Item) (header : Option ℕ) (opens ends : Bool)
     → IsBelow header (length items)
     → header_at (if opens then Some (length items) else (if ends then None else header)) (items ++ x
-        ∷ []) ≡ (if opens then Some x else (if ends then None else header_at header items))
+    ∷ []) ≡ (if opens then Some x else (if ends then None else header_at header items))
 behind items x header true ends below = last_of items x
 behind items x header false true below = refl
 behind items x header false false below = still_at items x header below
@@ -46,7 +46,7 @@ behind items x header false false below = still_at items x header below
 below_behind : (items : List Item) (x : Item) (header : Option ℕ) (opens ends : Bool)
     → IsBelow header (length items)
     → IsBelow (if opens then Some (length items) else (if ends then None else header)) (length
-        (items ++ x ∷ []))
+    (items ++ x ∷ []))
 below_behind items x header true ends below = omega (arith, length_push items x)
 below_behind items x header false true below = tt
 below_behind items x header false false below = still_below header (length items) (length (items ++
@@ -55,10 +55,10 @@ below_behind items x header false false below = still_below header (length items
 pub draft_behind : (items new : List Item) (x : Item) (header after : Option ℕ) (n : ℕ) (counts more
     : Counts) → IsDraft items header counts → new ≡ items ++ x ∷ []
     → n ≡ length items → after ≡ open_behind header n x → more ≡ counts_of (items ++ x ∷ [])
-        → IsDraft new after more
+    → IsDraft new after more
 draft_behind items new x header after n counts more draft new_is n_is after_is more_is =
     let index_is : after ≡ open_behind header (length items) x = after_is ∙ ap
-        (λ (k : ℕ). open_behind header k x) n_is in
+    (λ (k : ℕ). open_behind header k x) n_is in
     rw (new_is, index_is, more_is) record {
       header_is = behind items x header (is_header x) (is_end x) draft.within
           ∙ ap (λ (h : Option Item). header_behind h x) draft.header_is ∙ sym (open_push items x);

@@ -24,8 +24,10 @@ one_open count total l ls is all = (let more : count + (1 + prefix_len is_open l
 
 pub no_open : (count total : ℕ) (l : Lexeme) (ls : List Lexeme) → is_open l ≡ false
     → count + prefix_len is_open (l ∷ ls) ≡ total → count ≡ total
-no_open count total l ls is all = (let more : count + 0 ≡ total = rw is at all in omega (arith,
-    more))
+no_open count total l ls is all = (let more : count + 0 ≡ total = rw is at all in omega (
+  arith,
+  more,
+))
 
 pub no_opens : (count total : ℕ) → count + prefix_len is_open [] ≡ total → count ≡ total
 no_opens count total all = (let more : count + 0 ≡ total = all in omega (arith, more))

@@ -60,23 +60,23 @@ pub goes_on : {A : Type 0} (member : Reader A) (front : List A) (count i : ℕ) 
     Lexeme) (x : A) (total : ReadList A) → i < count → member ls ≡ Some (x, after)
     → a_comma after ≡ Some (true, rest)
     → with_front front (list_of member (count - i) ls) ≡ total
-        → with_front (front ++ x ∷ []) (list_of member (count - (i + 1)) rest) ≡ total
+    → with_front (front ++ x ∷ []) (list_of member (count - (i + 1)) rest) ≡ total
 goes_on member front count i ls after rest x total lt read comma so_far =
     let k : count - i ≡ suc (count - (i + 1)) = omega arith in
     let step : list_of member (count - i) ls ≡ with_front (x ∷ []) (list_of member (count - (i + 1))
-        rest) = rw k (more member (count - (i + 1)) ls after rest x read comma) in
+    rest) = rw k (more member (count - (i + 1)) ls after rest x read comma) in
     sym (ap (with_front front) step ∙ regroup front x (list_of member (count - (i + 1)) rest))
-        ∙ so_far
+    ∙ so_far
 
 pub ends : {A : Type 0} (member : Reader A) (front : List A) (count i : ℕ) (ls after rest : List
     Lexeme) (x : A) (total : ReadList A) → i < count → member ls ≡ Some (x, after)
     → a_comma after ≡ Some (false, rest)
     → with_front front (list_of member (count - i) ls) ≡ total
-        → total ≡ Some (front ++ x ∷ [], rest)
+    → total ≡ Some (front ++ x ∷ [], rest)
 ends member front count i ls after rest x total lt read none so_far =
     let k : count - i ≡ suc (count - (i + 1)) = omega arith in
     let step : list_of member (count - i) ls ≡ Some (x ∷ [], rest) = rw k (last member (count - (i +
-        1)) ls after rest x read none) in
+    1)) ls after rest x read none) in
     sym so_far ∙ ap (with_front front) step
 
 pub fails : {A : Type 0} (member : Reader A) (front : List A) (count i : ℕ) (ls left new : List
@@ -86,7 +86,7 @@ fails member front count i ls left new fault.NoMemory total lt refused so_far = 
 fails member front count i ls left new fault.NoForm total lt refused so_far =
     let k : count - i ≡ suc (count - (i + 1)) = omega arith in
     let step : list_of member (count - i) ls ≡ None = rw k (unread member (count - (i + 1)) ls
-        refused) in
+    refused) in
     sym so_far ∙ ap (with_front front) step
 
 pub is_full : {A : Type 0} (member : Reader A) (front : List A) (count i : ℕ) (ls : List Lexeme)

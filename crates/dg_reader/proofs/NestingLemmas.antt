@@ -134,11 +134,11 @@ pub all_tests : (es : List Expr) (limit : ℕ) → list_all
 all_tests [] limit = within_is 0 limit (omega arith)
 all_tests (e ∷ es) limit =
     let split : greatest (map nesting (e ∷ es)) ≡ max (nesting e) (greatest (map nesting es)) =
-        fold_max (max 0 (nesting e)) (map nesting es) ∙ ap
-        (λ (k : ℕ). max k (greatest (map nesting es))) (omega arith) in
+    fold_max (max 0 (nesting e)) (map nesting es) ∙ ap
+    (λ (k : ℕ). max k (greatest (map nesting es))) (omega arith) in
     sym (rw split (sym (both_tests (nesting e) (greatest (map nesting es)) limit (nat_le (nesting e)
-        limit) (list_all (λ x. nat_le (nesting x) limit) es)
-        (list_all (λ x. nat_le (nesting x) limit) (e ∷ es)) refl (all_tests es limit) refl)))
+    limit) (list_all (λ x. nat_le (nesting x) limit) es)
+    (list_all (λ x. nat_le (nesting x) limit) (e ∷ es)) refl (all_tests es limit) refl)))
 
 pub await_test : (limit : ℕ) → nat_lt 0 limit ≡ nat_le 1 limit
 await_test limit = refl

@@ -38,8 +38,10 @@ first_open n l ls le = from (is_open l) refl
 
 fewer : (n : ℕ) (l : Lexeme) (ls : List Lexeme) → is_open l ≡ true
     → suc n ≤ prefix_len is_open (l ∷ ls) → n ≤ prefix_len is_open ls
-fewer n l ls is le = (let more : suc n ≤ 1 + prefix_len is_open ls = rw is at le in omega (arith,
-    more))
+fewer n l ls is le = (let more : suc n ≤ 1 + prefix_len is_open ls = rw is at le in omega (
+  arith,
+  more,
+))
 
 pub opens_of : (n : ℕ) (ls : List Lexeme) → n ≤ prefix_len is_open ls → Opens n ls
 opens_of zero ls le = tt
@@ -65,8 +67,10 @@ none_opens (l ∷ ls) none = from (is_open l) refl
   where
     from : (b : Bool) → is_open l ≡ b → is_open l ≡ false
     from false is = is
-    from true is = absurd (let more : 1 + prefix_len is_open ls ≡ 0 = rw is at none in omega (arith,
-        more))
+    from true is = absurd (let more : 1 + prefix_len is_open ls ≡ 0 = rw is at none in omega (
+      arith,
+      more,
+    ))
 
 -- ---- one operand
 
@@ -96,8 +100,8 @@ parens_read : (read : Read) → then_reads (then_reads read close_paren) (fields
 parens_read read =
     chained read close_paren (fields nesting_limit)
     ∙ alike read (λ x ls. then_reads (close_paren x ls) (fields nesting_limit))
-        (λ x ls. then_reads (taken kind.Sign (codes ")") ls) (λ u. fields nesting_limit x))
-        (λ x ls. chained (taken kind.Sign (codes ")") ls) (λ u. pure x) (fields nesting_limit))
+    (λ x ls. then_reads (taken kind.Sign (codes ")") ls) (λ u. fields nesting_limit x))
+    (λ x ls. chained (taken kind.Sign (codes ")") ls) (λ u. pure x) (fields nesting_limit))
 
 opened : (part : Reader Expr) (ls : List Lexeme) → comes kind.Sign (codes "(") ls ≡ true
     → enclosed part ls ≡ then_reads (part (drop 1 ls)) close_paren
@@ -109,7 +113,7 @@ pub plain_prim_gives : (inner : Family) (b less : ℕ) (ls left : List Lexeme) (
     → Gives (plain_prim (inner less) ls) answer left → Gives (prim_to inner b ls) answer left
 plain_prim_gives inner b less ls left answer none is gives =
     subst (λ (read : Read). Gives read answer left) (ap (λ (k : ℕ). plain_prim (inner k) ls) is
-        ∙ sym (no_parens inner b ls none)) gives
+    ∙ sym (no_parens inner b ls none)) gives
 
 -- in parentheses
 in_parens : (inner : Family) (b : ℕ) (ls : List Lexeme) → comes kind.Sign (codes "(") ls ≡ true
@@ -120,7 +124,7 @@ in_parens inner b ls some = rw (some, opened (inner b) ls some) (parens_read (in
 -- an expression that begins with `(` is a sum
 closed_sum : (depth b : ℕ) (ls : List Lexeme) → comes kind.Sign (codes "(") ls ≡ true
     → closed_to (expression_to (suc depth)) (suc b) ls ≡ then_reads (prim_to (expression_to depth)
-        (suc b) ls) (around_to (expression_to depth) (suc b))
+    (suc b) ls) (around_to (expression_to depth) (suc b))
 unfolding closed_to expression_to whole_to sum_to around_to closing
 closed_sum depth b ls first = rw (no_word (codes "(") (codes "if") ls first) (chained (prim_to
     (expression_to depth) (suc b) ls) _ _)
@@ -129,20 +133,23 @@ closed_sum depth b ls first = rw (no_word (codes "(") (codes "if") ls first) (ch
 in_two_parens : (depth b : ℕ) (ls : List Lexeme) → 0 < b → comes kind.Sign (codes "(") ls ≡ true
     → comes kind.Sign (codes "(") (drop 1 ls) ≡ true
     → prim_to (expression_to (suc depth)) b ls ≡ then_reads (prim_to (expression_to depth) b (drop 1
-        ls)) (around_to (expression_to depth) b)
+    ls)) (around_to (expression_to depth) b)
 in_two_parens depth zero ls some first second = absurd (omega arith)
 in_two_parens depth (suc b) ls some first second = in_parens (expression_to (suc depth)) (suc b) ls
     first ∙ closed_sum depth b (drop 1 ls) second
 
 two_open : (n : ℕ) (ls : List Lexeme) → Opens (suc (suc n)) ls
     → (comes kind.Sign (codes "(") ls ≡ true) × (comes kind.Sign (codes "(") (drop 1 ls) ≡ true)
-two_open n ls opens = (first_opens (suc n) ls opens, first_opens n (drop 1 ls) (later_open (suc n)
-    ls opens))
+two_open n ls opens = (
+  first_opens (suc n) ls opens,
+  first_opens n (drop 1 ls) (later_open (suc n)
+      ls opens),
+)
 
 -- the operand behind n of these `(`, where another stands in front of it, and what stands around it
 one_outwards : (depth b n : ℕ) (ls : List Lexeme) → 0 < b → Opens (suc (suc n)) ls
     → prim_to (expression_to (suc depth)) b (drop n ls) ≡ then_reads (prim_to (expression_to depth)
-        b (drop (suc n) ls)) (around_to (expression_to depth) b)
+    b (drop (suc n) ls)) (around_to (expression_to depth) b)
 one_outwards depth b zero ls some opens = (let two = two_open zero ls opens in in_two_parens depth b
     ls some two.0 two.1)
 one_outwards depth b (suc n) [] some opens = absurd opens
@@ -157,7 +164,7 @@ none_outwards depth b zero ls some opens none = (let same : depth + 0 ≡ depth 
 none_outwards depth b (suc n) [] some opens none = absurd opens
 none_outwards depth b (suc n) (l ∷ ls) some opens none =
     let deeper : prim_to (expression_to (depth + n)) b ls ≡ None = none_outwards depth b n ls some
-        opens.1 none in
+    opens.1 none in
     let one : depth + suc n ≡ suc (depth + n) = omega arith in
     let two = two_open n (l ∷ ls) opens in
     rw one (in_two_parens (depth + n) b (l ∷ ls) some two.0 two.1 ∙ rw deeper refl)
@@ -172,24 +179,24 @@ innermost inner b (suc n) (l ∷ ls) opens = innermost inner b n ls opens.1
 
 -- the operand at this level was read, behind the `(` of the levels above it
 pub record IsAt (depth b level : ℕ) (ls : List Lexeme) (e : Expr) (left : List Lexeme) : Type 0
-    where
-  pub read : prim_to (expression_to level) b (drop (depth - level) ls) ≡ Some (e, left)
-  pub within : level ≤ depth
+  where
+    pub read : prim_to (expression_to level) b (drop (depth - level) ls) ≡ Some (e, left)
+    pub within : level ≤ depth
 
 none_at : (depth b level opens : ℕ) (ls : List Lexeme) → 0 < b → opens ≡ prefix_len is_open ls
     → depth < level + opens → level ≤ depth
     → prim_to (expression_to level) b (drop (depth - level) ls) ≡ None
-        → prim_to (expression_to depth) b ls ≡ None
+    → prim_to (expression_to depth) b ls ≡ None
 none_at depth b level opens ls some count few le none =
     let sum : level + (depth - level) ≡ depth = omega arith in
     let so_many : suc (depth - level) ≤ prefix_len is_open ls = omega (arith, count, few) in
     subst (λ (d : ℕ). prim_to (expression_to d) b ls ≡ None) sum (none_outwards level b (depth -
-        level) ls some (opens_of (suc (depth - level)) ls so_many) none)
+    level) ls some (opens_of (suc (depth - level)) ls so_many) none)
 
 first_at : (depth b opens level : ℕ) (ls : List Lexeme) → 0 < opens → opens ≡ prefix_len is_open ls
     → opens ≤ depth → level ≡ depth - (opens - 1)
     → prim_to (expression_to level) b (drop (depth - level) ls) ≡ closed_to (expression_to level) b
-        (drop opens ls)
+    (drop opens ls)
 first_at depth b opens level ls some count within is =
     let n : depth - level ≡ opens - 1 = omega (arith, is, within, some) in
     let next : suc (opens - 1) ≡ opens = omega (arith, some) in
@@ -201,20 +208,26 @@ next_at : (depth b opens level : ℕ) (ls : List Lexeme) (e : Expr) (left : List
     → opens ≡ prefix_len is_open ls → depth < level + opens → level < depth
     → IsAt depth b level ls e left
     → prim_to (expression_to (level + 1)) b (drop (depth - (level + 1)) ls) ≡ around_to
-        (expression_to level) b e left
+    (expression_to level) b e left
 next_at depth b opens level ls e left some count few lt at =
     let next : suc (depth - (level + 1)) ≡ depth - level = omega (arith, lt) in
     let one : level + 1 ≡ suc level = omega arith in
-    let so_many : suc (suc (depth - (level + 1))) ≤ prefix_len is_open ls = omega (arith, count,
-        few, lt) in
+    let so_many : suc (suc (depth - (level + 1))) ≤ prefix_len is_open ls = omega (
+      arith,
+      count,
+      few,
+      lt,
+    ) in
     let outwards = one_outwards level b (depth - (level + 1)) ls some (opens_of (suc (suc (depth -
-        (level + 1)))) ls so_many) in
-    let here : prim_to (expression_to level) b (drop (suc (depth - (level + 1))) ls) ≡ Some (e,
-        left) =
-        subst (λ (k : ℕ). prim_to (expression_to level) b (drop k ls) ≡ Some (e, left)) (sym next)
-            at.read in
+    (level + 1)))) ls so_many) in
+    let here : prim_to (expression_to level) b (drop (suc (depth - (level + 1))) ls) ≡ Some (
+      e,
+      left,
+    ) =
+    subst (λ (k : ℕ). prim_to (expression_to level) b (drop k ls) ≡ Some (e, left)) (sym next)
+    at.read in
     ap (λ (k : ℕ). prim_to (expression_to k) b (drop (depth - (level + 1)) ls)) one ∙ outwards
-        ∙ rw here refl
+    ∙ rw here refl
 
 pub begins_at : (depth b opens level : ℕ) (ls at : List Lexeme) (e : Expr) (left : List Lexeme)
     → 0 < opens → opens ≡ prefix_len is_open ls → opens ≤ depth → level ≡ depth - (opens - 1)
@@ -230,13 +243,13 @@ pub begins_not : (depth b opens level : ℕ) (ls at left new : List Lexeme) (f :
     → 0 < opens → opens ≡ prefix_len is_open ls → opens ≤ depth → level ≡ depth - (opens - 1)
     → at ≡ drop opens ls
     → Gives (closed_to (expression_to level) b at) (Err f) left
-        → Gives (prim_to (expression_to depth) b ls) (Err f) new
+    → Gives (prim_to (expression_to depth) b ls) (Err f) new
 begins_not depth b opens level ls at left new fault.NoMemory budget some count within is at_is
     refused = tt
 begins_not depth b opens level ls at left new fault.NoForm budget some count within is at_is refused
     =
     none_at depth b level opens ls budget count (omega (arith, is, some)) (omega (arith, is))
-        (first_at depth b opens level ls some count within is ∙ rw (← at_is) refused)
+    (first_at depth b opens level ls some count within is ∙ rw (← at_is) refused)
 
 pub goes_outwards : (depth b opens level : ℕ) (ls : List Lexeme) (e x : Expr) (left new : List
     Lexeme) → 0 < b → opens ≡ prefix_len is_open ls → depth < level + opens → level < depth
@@ -251,12 +264,12 @@ pub fails_outwards : (depth b opens level : ℕ) (ls : List Lexeme) (e : Expr) (
     Lexeme) (f : FormFault) → 0 < b → opens ≡ prefix_len is_open ls → depth < level + opens
     → level < depth → IsAt depth b level ls e left
     → Gives (around_to (expression_to level) b e left) (Err f) behind
-        → Gives (prim_to (expression_to depth) b ls) (Err f) new
+    → Gives (prim_to (expression_to depth) b ls) (Err f) new
 fails_outwards depth b opens level ls e left behind new fault.NoMemory some count few lt at refused
     = tt
 fails_outwards depth b opens level ls e left behind new fault.NoForm some count few lt at refused =
     none_at depth b (level + 1) opens ls some count (omega (arith, few)) (omega (arith, lt))
-        (next_at depth b opens level ls e left some count few lt at ∙ refused)
+    (next_at depth b opens level ls e left some count few lt at ∙ refused)
 
 pub ends_at : (depth b level : ℕ) (ls : List Lexeme) (e : Expr) (left : List Lexeme) → depth ≤ level
     → IsAt depth b level ls e left → prim_to (expression_to depth) b ls ≡ Some (e, left)
@@ -265,7 +278,7 @@ ends_at depth b level ls e left le at =
     let same : level ≡ depth = omega (arith, le, le') in
     let none : depth - level ≡ 0 = omega (arith, le) in
     let read : prim_to (expression_to level) b ls ≡ Some (e, left) = subst
-        (λ (k : ℕ). prim_to (expression_to level) b (drop k ls) ≡ Some (e, left)) none at.read in
+    (λ (k : ℕ). prim_to (expression_to level) b (drop k ls) ≡ Some (e, left)) none at.read in
     subst (λ (d : ℕ). prim_to (expression_to d) b ls ≡ Some (e, left)) same read
 
 -- ---- what is refused at once
@@ -284,20 +297,23 @@ pub too_many_opens : (depth b opens : ℕ) (ls : List Lexeme) → opens ≡ pref
     → depth < opens → prim_to (expression_to depth) b ls ≡ None
 too_many_opens depth zero opens ls count lt =
     in_parens (expression_to depth) 0 ls (first_opens depth ls (opens_of (suc depth) ls (omega
-        (arith, count, lt)))) ∙ no_budget depth (drop 1 ls)
+    (arith, count, lt)))) ∙ no_budget depth (drop 1 ls)
 too_many_opens depth (suc b) opens ls count lt =
     let some = opens_of (suc depth) ls (omega (arith, count, lt)) in
     let none : prim_to (expression_to 0) (suc b) (drop depth ls) ≡ None = innermost (expression_to
-        0) (suc b) depth ls some ∙ no_expression (suc b) (drop (suc depth) ls) in
+    0) (suc b) depth ls some ∙ no_expression (suc b) (drop (suc depth) ls) in
     let all : 0 + depth ≡ depth = omega arith in
     subst (λ (d : ℕ). prim_to (expression_to d) (suc b) ls ≡ None) all (none_outwards 0 (suc b)
-        depth ls (omega arith) some none)
+    depth ls (omega arith) some none)
 
 pub no_budget_left : (depth b opens : ℕ) (ls : List Lexeme) → opens ≡ prefix_len is_open ls
     → 0 < opens → b ≡ 0 → prim_to (expression_to depth) b ls ≡ None
 no_budget_left depth zero opens ls count some none =
-    in_parens (expression_to depth) 0 ls (first_opens 0 ls (opens_of 1 ls (omega (arith, count,
-        some)))) ∙ no_budget depth (drop 1 ls)
+    in_parens (expression_to depth) 0 ls (first_opens 0 ls (opens_of 1 ls (omega (
+      arith,
+      count,
+      some,
+    )))) ∙ no_budget depth (drop 1 ls)
 no_budget_left depth (suc b) opens ls count some none = absurd (omega arith)
 
 -- ---- expressions by how many may stand around one another
@@ -316,7 +332,7 @@ no_budget_within (suc depth) (suc b) ls none = absurd (omega arith)
 pub expression_step : (depth b : ℕ) (ls left : List Lexeme) (answer : Result Expr FormFault)
     → 0 < depth → 0 < b
     → Gives (whole_to (expression_to (depth - 1)) b ls) answer left
-        → Gives (expression_to depth b ls) answer left
+    → Gives (expression_to depth b ls) answer left
 unfolding expression_to
 expression_step zero b ls left answer some budget gives = absurd (omega arith)
 expression_step (suc depth) zero ls left answer some budget gives = absurd (omega arith)

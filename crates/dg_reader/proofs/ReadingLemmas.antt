@@ -41,8 +41,13 @@ pub next_of : {A : Type 0} (xs : List A) (k : ℕ) (x d : A) (ys : List A) → d
     → IsNext xs k x d ys
 next_of [] zero x d ys e = absurd cc
 next_of [] (suc k) x d ys e = absurd cc
-next_of (a ∷ xs) zero x d ys e = record { below = omega arith; here = cc; front = ap
-    (λ (b : _). b ∷ []) cc; behind = cc }
+next_of (a ∷ xs) zero x d ys e = record {
+  below = omega arith;
+  here = cc;
+  front = ap
+      (λ (b : _). b ∷ []) cc;
+  behind = cc;
+}
 next_of (a ∷ xs) (suc k) x d ys e =
     let later = next_of xs k x d ys e in
     let one : suc k + 1 ≡ suc (k + 1) = omega arith in
@@ -84,11 +89,11 @@ numbers_from_more n (l ∷ lines) line =
     let count : n + 1 + length lines ≡ n + suc (length lines) = omega arith in
     place_first (item_of l) n (numbers_from (n + 1) (lines ++ line ∷ []))
     ∙ ap (λ (more : List ℕ). number_of_item l n ++ more) (later ∙ ap
-        (λ (k : ℕ). numbers_from (n + 1) lines ++ number_of_item line k) count)
+    (λ (k : ℕ). numbers_from (n + 1) lines ++ number_of_item line k) count)
     ∙ sym (append_assoc (number_of_item l n) (numbers_from (n + 1) lines) (number_of_item line (n +
-        suc (length lines))))
+    suc (length lines))))
     ∙ ap (λ (front : List ℕ). front ++ number_of_item line (n + suc (length lines))) (sym
-        (place_first (item_of l) n (numbers_from (n + 1) lines)))
+    (place_first (item_of l) n (numbers_from (n + 1) lines)))
 
 pub places_more : (lines : List Bytes) (line : Bytes)
     → line_numbers_of (lines ++ line ∷ []) ≡ line_numbers_of lines ++ number_of_item line (length
@@ -129,9 +134,9 @@ component_room : (x : Item) (items : List Item) → may_follow x items ≡ true
 unfolding may_follow
 component_room x items follows =
     second_of (has_room is_declaration_line declaration_limit x items) (has_room is_component_line
-        component_limit x items)
+    component_limit x items)
     (has_room is_open_line open_limit x items) (has_room is_link_line link_limit x items) (has_room
-        is_ask_line ask_limit x items)
+    is_ask_line ask_limit x items)
     (all_of (may_stand (open_block items) x) (is_within_limits x items) follows).1
 
 few_meaning : (m : LineMeaning) (items new : List Item) → is_good_meaning m items ≡ true
@@ -141,7 +146,7 @@ few_meaning Bad items new good is few = absurd cc
 few_meaning Nothing items new good is few = rw (is, append-nil items) few
 few_meaning (Says x) items new good is few =
     rw (is, count_push is_component_line items x) (room_left (is_component_line x) (count_by
-        is_component_line items) component_limit (component_room x items good) few)
+    is_component_line items) component_limit (component_room x items good) few)
 
 few_behind : (line : Bytes) (items new : List Item) → is_good line items ≡ true
     → new ≡ items ++ option_to_list (item_of line) → count_by is_component_line items ≤
@@ -185,12 +190,15 @@ good_here bytes number text line more items places read next =
 pub goes_on : (bytes : Bytes) (number : ℕ) (text line more : Bytes) (items new : List Item) (places
     new_places : List ℕ)
     → HasRead bytes number text items places → lines_of text ≡ line ∷ lines_of more
-        → rest_of text ≡ rest_of more → Adds line (number + 1) items new places new_places true
+    → rest_of text ≡ rest_of more → Adds line (number + 1) items new places new_places true
     → HasRead bytes (number + 1) more new new_places
 goes_on bytes number text line more items new places new_places read first behind adds =
     let next = next_of (lines_of bytes) number line [] (lines_of more) (read.lines_left ∙ first) in
-    let so_many : length (take number (lines_of bytes)) ≡ number = omega (arith, length-take-le
-        number (lines_of bytes) read.count) in
+    let so_many : length (take number (lines_of bytes)) ≡ number = omega (
+      arith,
+      length-take-le
+          number (lines_of bytes) read.count,
+    ) in
     record {
       lines_left = next.behind;
       behind = read.behind ∙ behind;
@@ -221,7 +229,7 @@ not_before bytes number text items places read within m lt (bad_end at still) = 
 pub is_bad : (bytes : Bytes) (number : ℕ) (text line more : Bytes) (items : List Item) (places :
     List ℕ)
     → HasRead bytes number text items places → lines_of text ≡ line ∷ lines_of more
-        → is_good line items ≡ false → FirstBad bytes (number + 1)
+    → is_good line items ≡ false → FirstBad bytes (number + 1)
 is_bad bytes number text l more items places read first fails =
     let next = next_of (lines_of bytes) number l [] (lines_of more) (read.lines_left ∙ first) in
     let below : number < length (lines_of bytes) = next.below in
@@ -260,7 +268,7 @@ pub end_is_bad : (bytes : Bytes) (number : ℕ) (text : Bytes) (items : List Ite
 end_is_bad bytes number text items places read none still =
     let all = all_read bytes number text items places read none in
     let items_are : items ≡ items_of (lines_of bytes) = read.items_are
-        ∙ ap items_of (whole bytes number all) in
+    ∙ ap items_of (whole bytes number all) in
     record {
       is_bad = bad_end (omega arith) (subst (λ (xs : List Item). IsSome (open_block xs)) items_are
           still);
@@ -273,7 +281,7 @@ pub is_read : (bytes : Bytes) (number : ℕ) (text : Bytes) (doc : Doc)
 is_read bytes number text doc read none behind empty closed =
     let all = all_read bytes number text doc.items doc.lines read none in
     let items_are : doc.items ≡ items_of (lines_of bytes) = read.items_are
-        ∙ ap items_of (whole bytes number all) in
+    ∙ ap items_of (whole bytes number all) in
     record {
       each = λ n one le. read.good n one (omega arith);
       no_rest = read.behind ∙ behind ∙ empty;
@@ -300,8 +308,13 @@ says_of_tokens line item says = says_behind (is_printable line) (is_blank line |
 pub adds_bad : (line : Bytes) (number : ℕ) (items : List Item) (places : List ℕ)
     → meaning_of line ≡ Bad → Adds line number items items places places false
 unfolding is_good
-adds_bad line number items places says = record { answer = rw says refl; item = λ e. absurd
-    (false≢true e); place = λ e. absurd (false≢true e); kept = λ _. (refl, refl) }
+adds_bad line number items places says = record {
+  answer = rw says refl;
+  item = λ e. absurd
+      (false≢true e);
+  place = λ e. absurd (false≢true e);
+  kept = λ _. (refl, refl);
+}
 
 pub adds_nothing : (line : Bytes) (number : ℕ) (items : List Item) (places : List ℕ)
     → meaning_of line ≡ Nothing → Adds line number items items places places true
@@ -316,11 +329,10 @@ adds_nothing line number items places says = record {
 pub adds_item : (line : Bytes) (number : ℕ) (items new : List Item) (places new_places : List ℕ)
     (item : Item) (good : Bool)
     → meaning_of line ≡ Says item → good ≡ may_follow item items → good ≡ true
-        → new ≡ items ++ item ∷ [] → new_places ≡ places ++ number ∷ []
-        → Adds line number items new places new_places good
+    → new ≡ items ++ item ∷ [] → new_places ≡ places ++ number ∷ []
+    → Adds line number items new places new_places good
 unfolding is_good item_of
-adds_item line number items new places new_places item good says follows holds added placed = record
-    {
+adds_item line number items new places new_places item good says follows holds added placed = record {
   answer = rw says follows;
   item = λ _. rw says added;
   place = λ _. rw says placed;
@@ -330,7 +342,7 @@ adds_item line number items new places new_places item good says follows holds a
 pub refuses_item : (line : Bytes) (number : ℕ) (items : List Item) (places : List ℕ) (item : Item)
     (good : Bool)
     → meaning_of line ≡ Says item → good ≡ may_follow item items → good ≡ false
-        → Adds line number items items places places good
+    → Adds line number items items places places good
 unfolding is_good
 refuses_item line number items places item good says follows bad = record {
   answer = rw says follows;

@@ -44,12 +44,12 @@ steps_end front count i (l ∷ ls) total empty so_far =
 pub steps_go_on : (front : List AskStep) (count i : ℕ) (ls after : List Lexeme) (x : AskStep) (total
     : ReadList AskStep) → i < count → (length ls == 0) ≡ false → ask_step ls ≡ Some (x, after)
     → with_front front (ask_steps (count - i) ls) ≡ total
-        → with_front (front ++ x ∷ []) (ask_steps (count - (i + 1)) after) ≡ total
+    → with_front (front ++ x ∷ []) (ask_steps (count - (i + 1)) after) ≡ total
 steps_go_on front count i [] after x total lt some read so_far = absurd cc
 steps_go_on front count i (l ∷ ls) after x total lt some read so_far =
     let k : count - i ≡ suc (count - (i + 1)) = omega arith in
     let step : ask_steps (count - i) (l ∷ ls) ≡ with_front (x ∷ []) (ask_steps (count - (i + 1))
-        after) = rw k (step_more (count - (i + 1)) l ls after x read) in
+    after) = rw k (step_more (count - (i + 1)) l ls after x read) in
     sym (ap (with_front front) step ∙ regroup front x (ask_steps (count - (i + 1)) after)) ∙ so_far
 
 pub steps_fail : (front : List AskStep) (count i : ℕ) (ls left new : List Lexeme) (e : FormFault)
@@ -61,7 +61,7 @@ steps_fail front count i [] left new fault.NoForm total lt some refused so_far =
 steps_fail front count i (l ∷ ls) left new fault.NoForm total lt some refused so_far =
     let k : count - i ≡ suc (count - (i + 1)) = omega arith in
     let step : ask_steps (count - i) (l ∷ ls) ≡ None = rw k (step_missing (count - (i + 1)) l ls
-        refused) in
+    refused) in
     sym so_far ∙ ap (with_front front) step
 
 pub steps_are_full : (front : List AskStep) (count i : ℕ) (ls : List Lexeme) (total : ReadList

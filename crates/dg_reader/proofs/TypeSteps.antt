@@ -14,7 +14,7 @@ type_none (suc depth) ls none = absurd (omega arith)
 
 pub type_step : (depth : ℕ) (ls left : List Lexeme) (answer : Result Shape FormFault) → 0 < depth
     → Gives (type_over (type_within (depth - 1)) ls) answer left
-        → Gives (type_within depth ls) answer left
+    → Gives (type_within depth ls) answer left
 unfolding type_within
 type_step zero ls left answer some gives = absurd (omega arith)
 type_step (suc depth) ls left answer some gives =

@@ -49,11 +49,7 @@ fn leaf(alloc: Global, tokens: &mut Lexemes<'_>) -> Result<Tree, FormFault>
 /// if COND then TREE else TREE
 #[cycle(trees)]
 #[tactic(auto, unfolding(crate::specs::Budgets::tree_choice_to))]
-fn tree_choice(
-    alloc: Global,
-    tokens: &mut Lexemes<'_>,
-    depth: usize,
-) -> Result<Tree, FormFault>
+fn tree_choice(alloc: Global, tokens: &mut Lexemes<'_>, depth: usize) -> Result<Tree, FormFault>
     ensures exact { Gives (budgets.tree_choice_to (budgets.tree_to depth) tokens.old) result
         tokens.new }
 {
@@ -73,11 +69,7 @@ fn tree_choice(
 /// TREE over those within it.
 #[cycle(trees)]
 #[tactic(auto, unfolding(crate::specs::Budgets::tree_over_to))]
-fn tree_over(
-    alloc: Global,
-    tokens: &mut Lexemes<'_>,
-    depth: usize,
-) -> Result<Tree, FormFault>
+fn tree_over(alloc: Global, tokens: &mut Lexemes<'_>, depth: usize) -> Result<Tree, FormFault>
     ensures exact { Gives (budgets.tree_over_to (budgets.tree_to depth) tokens.old) result
         tokens.new }
 {

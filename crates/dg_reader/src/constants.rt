@@ -72,11 +72,7 @@ fn constants(
 /// `new N(..)` of constants that nest at most so deep.
 #[cycle(constants)]
 #[tactic(auto, unfolding(dg_decl::specs::ExpressionForms::object))]
-fn constant_object(
-    alloc: Global,
-    tokens: &mut Lexemes<'_>,
-    depth: usize,
-) -> Result<Expr, FormFault>
+fn constant_object(alloc: Global, tokens: &mut Lexemes<'_>, depth: usize) -> Result<Expr, FormFault>
     ensures exact { Gives (forms.object (forms.constant_within depth) tokens.old) result
         tokens.new }
 {
@@ -89,11 +85,7 @@ fn constant_object(
 /// A constant over those within it, which nest at most so deep.
 #[cycle(constants)]
 #[tactic(auto, unfolding(dg_decl::specs::ExpressionForms::constant_over))]
-fn constant_over(
-    alloc: Global,
-    tokens: &mut Lexemes<'_>,
-    depth: usize,
-) -> Result<Expr, FormFault>
+fn constant_over(alloc: Global, tokens: &mut Lexemes<'_>, depth: usize) -> Result<Expr, FormFault>
     ensures exact { Gives (forms.constant_over (forms.constant_within depth) tokens.old) result
         tokens.new }
 {
@@ -108,11 +100,7 @@ fn constant_over(
 
 /// A constant that nests at most so deep.
 #[cycle(constants)]
-fn constant_within(
-    alloc: Global,
-    tokens: &mut Lexemes<'_>,
-    depth: usize,
-) -> Result<Expr, FormFault>
+fn constant_within(alloc: Global, tokens: &mut Lexemes<'_>, depth: usize) -> Result<Expr, FormFault>
     ensures exact { Gives (forms.constant_within depth tokens.old) result tokens.new }
 {
     if depth == 0 {

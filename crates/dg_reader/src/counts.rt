@@ -8,9 +8,13 @@ ghost use Rattle.dg_reader.specs.Drafts as drafts;
 use dg_decl::Item;
 
 const DECLARATION_LIMIT: usize = 8192;
+
 const COMPONENT_LIMIT: usize = 120;
+
 const OPEN_LIMIT: usize = 256;
+
 const LINK_LIMIT: usize = 1024;
+
 const ASK_LIMIT: usize = 20000;
 
 /// How many items of each kind that has a limit there are.
@@ -35,10 +39,7 @@ fn is_declaration(item: &Item) -> bool
 fn is_component(item: &Item) -> bool
     ensures exact { result ≡ limits.is_component_line item.now }
 {
-    matches!(
-        item,
-        Item::Component { .. } | Item::DefineComponent { .. }
-    )
+    matches!(item, Item::Component { .. } | Item::DefineComponent { .. })
 }
 
 fn is_open(item: &Item) -> bool

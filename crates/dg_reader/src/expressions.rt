@@ -25,11 +25,7 @@ use std::alloc::Global;
 
 /// A function of the name of a parameter.
 #[tactic(auto, unfolding(dg_decl::specs::ExpressionForms::call_by_name))]
-fn call_by_name(
-    alloc: Global,
-    tokens: &mut Lexemes<'_>,
-    f: ParamCall,
-) -> Result<Expr, FormFault>
+fn call_by_name(alloc: Global, tokens: &mut Lexemes<'_>, f: ParamCall) -> Result<Expr, FormFault>
     ensures exact { Gives (forms.call_by_name f tokens.old) result tokens.new }
 {
     let param = enclosed_name(alloc, tokens)?;
@@ -78,13 +74,7 @@ fn in_parentheses(
 }
 
 #[cycle(reading)]
-#[tactic(
-    auto,
-    unfolding(
-        dg_decl::specs::Readers::some_in_parentheses,
-        dg_decl::specs::Readers::enclosed
-    )
-)]
+#[tactic(auto, unfolding(dg_decl::specs::Readers::some_in_parentheses, dg_decl::specs::Readers::enclosed))]
 fn some_in_parentheses(
     alloc: Global,
     tokens: &mut Lexemes<'_>,
@@ -119,13 +109,7 @@ fn object(
 }
 
 #[cycle(reading)]
-#[tactic(
-    auto,
-    unfolding(
-        dg_decl::specs::ExpressionForms::call_of_one,
-        dg_decl::specs::Readers::enclosed
-    )
-)]
+#[tactic(auto, unfolding(dg_decl::specs::ExpressionForms::call_of_one, dg_decl::specs::Readers::enclosed))]
 fn call_of_one(
     alloc: Global,
     tokens: &mut Lexemes<'_>,
@@ -228,13 +212,7 @@ fn function(
 
 /// A name: a function where `(` stands behind it, else a parameter.
 #[cycle(reading)]
-#[tactic(
-    auto,
-    unfolding(
-        dg_decl::specs::ExpressionForms::named,
-        dg_decl::specs::ExpressionForms::named_as
-    )
-)]
+#[tactic(auto, unfolding(dg_decl::specs::ExpressionForms::named, dg_decl::specs::ExpressionForms::named_as))]
 fn named(
     alloc: Global,
     tokens: &mut Lexemes<'_>,

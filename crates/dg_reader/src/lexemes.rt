@@ -125,13 +125,7 @@ impl<'a> Lexemes<'a> {
     }
 
     /// Whether such a name comes next, and `(` behind it.
-    #[tactic(
-        auto,
-        unfolding(
-            dg_decl::specs::ExpressionForms::comes_call,
-            dg_decl::specs::Readers::comes
-        )
-    )]
+    #[tactic(auto, unfolding(dg_decl::specs::ExpressionForms::comes_call, dg_decl::specs::Readers::comes))]
     pub fn comes_call(&self, name: &[u8]) -> bool
         ensures exact { result ≡ forms.comes_call name.now self.now }
     {

@@ -166,13 +166,7 @@ pub fn multibinds_line(alloc: Global, tokens: &mut Lexemes<'_>) -> Result<Item, 
 }
 
 /// bindsInstance N : USE
-#[tactic(
-    auto,
-    unfolding(
-        dg_decl::specs::Forms::binds_instance_line,
-        dg_decl::specs::Forms::use_line
-    )
-)]
+#[tactic(auto, unfolding(dg_decl::specs::Forms::binds_instance_line, dg_decl::specs::Forms::use_line))]
 pub fn binds_instance_line(alloc: Global, tokens: &mut Lexemes<'_>) -> Result<Item, FormFault>
     ensures exact { Gives (forms.binds_instance_line tokens.old) result tokens.new }
 {

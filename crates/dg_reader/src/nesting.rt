@@ -32,7 +32,10 @@ pub fn nests_within(e: &Expr, limit: usize) -> bool
         Expr::Sum(a, b) => both(nests_within(a.get(), inner), nests_within(b.get(), inner)),
         Expr::If { cond, yes, no } => both(
             condition_nests_within(cond.get(), inner),
-            both(nests_within(yes.get(), inner), nests_within(no.get(), inner)),
+            both(
+                nests_within(yes.get(), inner),
+                nests_within(no.get(), inner),
+            ),
         ),
         Expr::OrElse { other, .. } => nests_within(other.get(), inner),
     }

@@ -231,12 +231,7 @@ fn bad_line(rt: &impl Abort, alloc: Global, document: &[u8]) -> Result<u32, NoMe
 }
 
 /// The first bad line where such lines stand one behind another, or 0.
-fn bad_line_of(
-    rt: &impl Abort,
-    alloc: Global,
-    line: &[u8],
-    count: usize,
-) -> Result<u32, NoMemory> {
+fn bad_line_of(rt: &impl Abort, alloc: Global, line: &[u8], count: usize) -> Result<u32, NoMemory> {
     let document = nested(alloc, b"", line, count, b"", b"", b"")?;
     bad_line(rt, alloc, document.as_slice())
 }
@@ -246,7 +241,10 @@ fn items_of_a_kind_are_limited(rt: HostRuntime) -> Result<(), Fail> {
     let alloc = rt.alloc();
     assert_eq!(rt; bad_line_of(&rt, alloc, b"component A {\n}\n", 120)?, 0);
     assert_eq!(rt; bad_line_of(&rt, alloc, b"component A {\n}\n", 121)?, 241);
-    assert_eq!(rt; bad_line_of(&rt, alloc, b"defineComponent A in B {\n}\n", 121)?, 241);
+    assert_eq!(rt;
+        bad_line_of(&rt, alloc, b"defineComponent A in B {\n}\n", 121)?,
+        241
+    );
     assert_eq!(rt; bad_line_of(&rt, alloc, b"open a : A\n", 256)?, 0);
     assert_eq!(rt; bad_line_of(&rt, alloc, b"open a : A\n", 257)?, 257);
     assert_eq!(rt; bad_line_of(&rt, alloc, b"link a to b\n", 1024)?, 0);
@@ -273,14 +271,23 @@ fn items_stand_in_their_blocks(rt: HostRuntime) -> Result<(), Fail> {
         ("module M {\nmodule N {\n}\n}\n", 2),
         ("module M {\nscope S\n}\n", 2),
         ("module M {\nentry a : Int\n}\n", 2),
-        ("@TestInstallIn(C) module M replaces N {\nbinds a(x : A) : B\n}\n", 0),
-        ("component A {\nbindsInstance a : Int\ndependsOn B\nentry b : Int\n}\nask i.e\n", 0),
+        (
+            "@TestInstallIn(C) module M replaces N {\nbinds a(x : A) : B\n}\n",
+            0,
+        ),
+        (
+            "component A {\nbindsInstance a : Int\ndependsOn B\nentry b : Int\n}\nask i.e\n",
+            0,
+        ),
         ("component A {\nmultibinds a : Set<Int>\n}\n", 2),
         ("defineComponent A in B {\nbindsInstance a : Int\n}\n", 0),
         ("defineComponent A in B {\nentry a : Int\n}\n", 2),
         ("defineComponent A in B {\ndependsOn C\n}\n", 2),
         ("@InstallIn(A) entryPoint E {\nentry a : Int\n}\n", 0),
-        ("@InstallIn(A) entryPoint E {\nbindsInstance a : Int\n}\n", 2),
+        (
+            "@InstallIn(A) entryPoint E {\nbindsInstance a : Int\n}\n",
+            2,
+        ),
     ];
     for (document, bad) in documents.iter() {
         let found = bad_line(&rt, rt.alloc(), document.as_bytes())?;

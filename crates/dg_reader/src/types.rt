@@ -74,11 +74,7 @@ fn constructed(
 /// A name alone, or a constructor with its types between `<` and `>`, which nest at most so deep.
 #[cycle(types)]
 #[tactic(auto, unfolding(dg_decl::specs::TypeForms::type_over))]
-fn type_over(
-    alloc: Global,
-    tokens: &mut Lexemes<'_>,
-    depth: usize,
-) -> Result<Shape, FormFault>
+fn type_over(alloc: Global, tokens: &mut Lexemes<'_>, depth: usize) -> Result<Shape, FormFault>
     ensures exact { Gives (types.type_over (types.type_within depth) tokens.old) result tokens.new }
 {
     let n = name(alloc, tokens)?;
@@ -92,11 +88,7 @@ fn type_over(
 
 /// A type, at most so deep.
 #[cycle(types)]
-fn type_within(
-    alloc: Global,
-    tokens: &mut Lexemes<'_>,
-    depth: usize,
-) -> Result<Shape, FormFault>
+fn type_within(alloc: Global, tokens: &mut Lexemes<'_>, depth: usize) -> Result<Shape, FormFault>
     ensures exact { Gives (types.type_within depth tokens.old) result tokens.new }
 {
     if depth == 0 {
@@ -124,10 +116,7 @@ fn member(alloc: Global, tokens: &mut Lexemes<'_>) -> Result<Option<Text>, FormF
 }
 
 #[tactic(auto, unfolding(dg_decl::specs::TypeForms::some_qualifier))]
-fn some_qualifier(
-    alloc: Global,
-    tokens: &mut Lexemes<'_>,
-) -> Result<Option<Qualifier>, FormFault>
+fn some_qualifier(alloc: Global, tokens: &mut Lexemes<'_>) -> Result<Option<Qualifier>, FormFault>
     ensures exact { Gives (types.some_qualifier tokens.old) result tokens.new }
 {
     let name = at_name(alloc, tokens)?;
@@ -189,13 +178,7 @@ fn param_list(alloc: Global, tokens: &mut Lexemes<'_>) -> Result<Items<Param>, F
     Err(FormFault::NoForm)
 }
 
-#[tactic(
-    auto,
-    unfolding(
-        dg_decl::specs::TypeForms::params,
-        dg_decl::specs::Readers::in_parentheses
-    )
-)]
+#[tactic(auto, unfolding(dg_decl::specs::TypeForms::params, dg_decl::specs::Readers::in_parentheses))]
 pub fn params(alloc: Global, tokens: &mut Lexemes<'_>) -> Result<Items<Param>, FormFault>
     ensures exact { Gives (types.params tokens.old) result tokens.new }
 {

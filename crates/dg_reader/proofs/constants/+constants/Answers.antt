@@ -9,7 +9,7 @@ use Rattle.dg_reader.proofs.constants.+constants.Goals as goal
 pub constant_list-loop-turn-init : goal.constant_list-loop-turn-init
 constant_list-loop-turn-init t c =
     rw c.new-found.ensures (begins (readers.list_of (forms.constant_within c.args.depth)
-        readers.list_limit c.args.tokens.now))
+    readers.list_limit c.args.tokens.now))
 
 pub constant_list-returns-in_err-constant_within : goal.constant_list-returns-in_err-constant_within
 constant_list-returns-in_err-constant_within t c =
@@ -34,10 +34,10 @@ constant_list-returns-then-not-eat t c =
 pub constant_list-loop-turn-preserved : goal.constant_list-loop-turn-preserved
 constant_list-loop-turn-preserved t c =
     rw c.in_ok-push.ensures.ok (goes_on (forms.constant_within c.args.depth) c.loop-turn.found
-        readers.list_limit c.loop-turn._turn c.loop-turn.tokens c.constant_within.new.tokens
-        c.eat.new.self c.in_ok-constant_within.field-0 _ c.loop-turn-test.true
-        c.in_ok-constant_within.ensures.exact (rw (← c.if-not-eat.false) c.eat.ensures.exact)
-        c.loop-turn.invariant)
+    readers.list_limit c.loop-turn._turn c.loop-turn.tokens c.constant_within.new.tokens
+    c.eat.new.self c.in_ok-constant_within.field-0 _ c.loop-turn-test.true
+    c.in_ok-constant_within.ensures.exact (rw (← c.if-not-eat.false) c.eat.ensures.exact)
+    c.loop-turn.invariant)
 
 pub constant_list-returns : goal.constant_list-returns
 constant_list-returns t c =

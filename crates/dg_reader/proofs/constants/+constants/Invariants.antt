@@ -8,7 +8,7 @@ use Rattle.dg_reader.proofs.constants.+constants.Given as goal
 abbrev pub invariant-constant_list-loop-turn : goal.invariant-constant_list-loop-turn
 invariant-constant_list-loop-turn l =
     with_front l.found (readers.list_of (forms.constant_within l.depth) (readers.list_limit -
-        l._turn) l.tokens)
+    l._turn) l.tokens)
     ≡ readers.list_of (forms.constant_within l.depth) readers.list_limit l.fn.tokens
 
 abbrev pub decreases-constant_within : goal.decreases-constant_within

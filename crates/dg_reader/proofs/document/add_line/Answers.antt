@@ -15,25 +15,25 @@ returns-in-Nothing-clause-exact c = adds_nothing c.args.line.now c.args.number c
 pub returns-in_err-push-in-Says-clause-cause : goal.returns-in_err-push-in-Says-clause-cause
 returns-in_err-push-in-Says-clause-cause c =
     let tokens : IsOfTokens c.args.line.now = says_of_tokens c.args.line.now c.in-Says.item (sym
-        c.in_ok-meaning_of.ensures.exact ∙ c.in-Says.is) in
+    c.in_ok-meaning_of.ensures.exact ∙ c.in-Says.is) in
     search (rules, tokens)
 
 pub returns-in_err-push-in-Says-2-clause-cause : goal.returns-in_err-push-in-Says-2-clause-cause
 returns-in_err-push-in-Says-2-clause-cause c =
     let tokens : IsOfTokens c.args.line.now = says_of_tokens c.args.line.now c.in-Says.item (sym
-        c.in_ok-meaning_of.ensures.exact ∙ c.in-Says.is) in
+    c.in_ok-meaning_of.ensures.exact ∙ c.in-Says.is) in
     search (rules, tokens)
 
 pub returns-in_ok-push-in-Says-2-clause-exact : goal.returns-in_ok-push-in-Says-2-clause-exact
 returns-in_ok-push-in-Says-2-clause-exact c =
     adds_item c.args.line.now c.args.number c.args.draft.now c.push.new.self c.args.places.now.items
-        c.push-then-good.new.self.items c.in-Says.item c.may_follow-good.result
+    c.push-then-good.new.self.items c.in-Says.item c.may_follow-good.result
     (sym c.in_ok-meaning_of.ensures.exact ∙ c.in-Says.is) c.may_follow-good.ensures.exact
-        c.if-good.true c.in_ok-push-in-Says.ensures.exact c.in_ok-push-in-Says-2.ensures.items
+    c.if-good.true c.in_ok-push-in-Says.ensures.exact c.in_ok-push-in-Says-2.ensures.items
 
 pub returns-else-good-clause-exact : goal.returns-else-good-clause-exact
 returns-else-good-clause-exact c =
     refuses_item c.args.line.now c.args.number c.args.draft.now c.args.places.now.items
-        c.in-Says.item c.may_follow-good.result
+    c.in-Says.item c.may_follow-good.result
     (sym c.in_ok-meaning_of.ensures.exact ∙ c.in-Says.is) c.may_follow-good.ensures.exact
-        c.if-good.false
+    c.if-good.false

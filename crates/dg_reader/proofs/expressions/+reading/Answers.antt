@@ -16,7 +16,7 @@ use Rattle.dg_reader.proofs.expressions.+reading.Goals as goal
 pub expression_list-loop-turn-init : goal.expression_list-loop-turn-init
 expression_list-loop-turn-init t c =
     rw c.new-found.ensures (begins (readers.list_of (budgets.expression_to c.args.depth
-        c.args.budget) readers.list_limit c.args.tokens.now))
+    c.args.budget) readers.list_limit c.args.tokens.now))
 
 pub expression_list-returns-in_err-expression : goal.expression_list-returns-in_err-expression
 expression_list-returns-in_err-expression t c =
@@ -41,10 +41,10 @@ expression_list-returns-then-not-eat t c =
 pub expression_list-loop-turn-preserved : goal.expression_list-loop-turn-preserved
 expression_list-loop-turn-preserved t c =
     rw c.in_ok-push.ensures.ok (goes_on (budgets.expression_to c.args.depth c.args.budget)
-        c.loop-turn.found readers.list_limit c.loop-turn._turn c.loop-turn.tokens
-        c.expression.new.tokens c.eat.new.self c.in_ok-expression.field-0 _
-        c.loop-turn-test.true c.in_ok-expression.ensures.exact
-        (rw (← c.if-not-eat.false) c.eat.ensures.exact) c.loop-turn.invariant)
+    c.loop-turn.found readers.list_limit c.loop-turn._turn c.loop-turn.tokens
+    c.expression.new.tokens c.eat.new.self c.in_ok-expression.field-0 _
+    c.loop-turn-test.true c.in_ok-expression.ensures.exact
+    (rw (← c.if-not-eat.false) c.eat.ensures.exact) c.loop-turn.invariant)
 
 pub expression_list-returns : goal.expression_list-returns
 expression_list-returns t c =
@@ -103,13 +103,13 @@ pub added-loop-turn-preserved : goal.added-loop-turn-preserved
 added-loop-turn-preserved t c =
     let less : c.saturating_sub.result ≡ c.args.budget - 1 = omega arith in
     rw (c.in_ok-new.ensures, c.in_ok-new-2.ensures) (row_goes_on (codes "+") (budgets.prim_to
-        (budgets.expression_to c.args.depth) (c.args.budget - 1)) (λ a b. expr.Sum a b)
-        forms.nesting_limit c.loop-turn._turn c.loop-turn.read c.loop-turn.tokens
-        c.eat.new.self c.prim.new.tokens c.in_ok-term.term _ c.loop-turn-test.true
-        (rw (← c.if-not-eat.false) c.eat.ensures.exact)
-        (subst (λ (b : ℕ). budgets.prim_to (budgets.expression_to c.args.depth) b
-        c.eat.new.self ≡ Some (c.in_ok-term.term, c.prim.new.tokens)) less
-        c.in_ok-term.ensures.exact) c.loop-turn.invariant)
+    (budgets.expression_to c.args.depth) (c.args.budget - 1)) (λ a b. expr.Sum a b)
+    forms.nesting_limit c.loop-turn._turn c.loop-turn.read c.loop-turn.tokens
+    c.eat.new.self c.prim.new.tokens c.in_ok-term.term _ c.loop-turn-test.true
+    (rw (← c.if-not-eat.false) c.eat.ensures.exact)
+    (subst (λ (b : ℕ). budgets.prim_to (budgets.expression_to c.args.depth) b
+    c.eat.new.self ≡ Some (c.in_ok-term.term, c.prim.new.tokens)) less
+    c.in_ok-term.ensures.exact) c.loop-turn.invariant)
 
 pub added-returns : goal.added-returns
 unfolding budgets.added_to
@@ -172,7 +172,7 @@ in_opens-loop-level-init t c = record {
 pub in_opens-returns-in_err-read-2 : goal.in_opens-returns-in_err-read-2
 in_opens-returns-in_err-read-2 t c =
     let p = err_from_is_err_and c.from_residual-in_err-read-2.result
-        c.from_residual-in_err-read-2.ensures.1 in
+    c.from_residual-in_err-read-2.ensures.1 in
     record {
       exact = rw (p.1, p.2) (fails_outwards c.args.depth c.args.budget c.args.opens
           c.loop-level.level c.args.tokens.now c.loop-level.read c.loop-level.tokens

@@ -11,18 +11,18 @@ use Rattle.dg_reader.proofs.expressions.+reading.Given as goal
 abbrev pub invariant-expression_list-loop-turn : goal.invariant-expression_list-loop-turn
 invariant-expression_list-loop-turn l =
     with_front l.found (readers.list_of (budgets.expression_to l.depth l.budget) (readers.list_limit
-        - l._turn) l.tokens)
+    - l._turn) l.tokens)
     ≡ readers.list_of (budgets.expression_to l.depth l.budget) readers.list_limit l.fn.tokens
 
 -- what was read so far, and what is still read behind it, are all
 abbrev pub invariant-added-loop-turn : goal.invariant-added-loop-turn
 invariant-added-loop-turn l =
     forms.row_of (codes "+") (budgets.prim_to (budgets.expression_to l.depth) (l.budget - 1))
-        (λ a b. expr.Sum a b)
-        (forms.nesting_limit - l._turn) l.read l.tokens
+    (λ a b. expr.Sum a b)
+    (forms.nesting_limit - l._turn) l.read l.tokens
     ≡ forms.row_of (codes "+") (budgets.prim_to (budgets.expression_to l.depth) (l.budget - 1))
-        (λ a b. expr.Sum a b)
-        forms.nesting_limit l.fn.to l.fn.tokens
+    (λ a b. expr.Sum a b)
+    forms.nesting_limit l.fn.to l.fn.tokens
 
 -- the operand of this level was read
 abbrev pub invariant-in_opens-loop-level : goal.invariant-in_opens-loop-level

@@ -31,11 +31,11 @@ returns-in_err-field c =
 pub loop-turn-preserved : goal.loop-turn-preserved
 loop-turn-preserved c =
     rw c.in_ok-new.ensures (row_goes_on (codes ".") readers.name
-        (λ e f. expr.Field e f) forms.nesting_limit
-        c.loop-turn._turn c.loop-turn.read c.loop-turn.tokens c.eat.new.self c.name.new.tokens
-        c.in_ok-field.field _ c.loop-turn-test.true
-        (rw (← c.if-not-eat.false) c.eat.ensures.exact) c.in_ok-field.ensures.exact
-        c.loop-turn.invariant)
+    (λ e f. expr.Field e f) forms.nesting_limit
+    c.loop-turn._turn c.loop-turn.read c.loop-turn.tokens c.eat.new.self c.name.new.tokens
+    c.in_ok-field.field _ c.loop-turn-test.true
+    (rw (← c.if-not-eat.false) c.eat.ensures.exact) c.in_ok-field.ensures.exact
+    c.loop-turn.invariant)
 
 pub returns : goal.returns
 unfolding forms.fields

@@ -8,6 +8,6 @@ use Rattle.dg_reader.proofs.expressions.fields.Given as goal
 abbrev pub invariant-loop-turn : goal.invariant-loop-turn
 invariant-loop-turn l =
     forms.row_of (codes ".") readers.name (λ e f. expr.Field e f) (forms.nesting_limit - l._turn)
-        l.read l.tokens
+    l.read l.tokens
     ≡ forms.row_of (codes ".") readers.name (λ e f. expr.Field e f) forms.nesting_limit l.fn.of
-        l.fn.tokens
+    l.fn.tokens

@@ -95,9 +95,9 @@ nests_within-returns-in-Sum t c =
 pub nests_within-returns-in-If : goal.nests_within-returns-in-If
 nests_within-returns-in-If t c =
     let arms = both_tests (forms.nesting c.get-in-If-2.result.now)
-        (forms.nesting c.get-in-If-3.result.now) (c.args.limit - 1) c.nests_within-in-If.result
-        c.nests_within-in-If-2.result c.both-in-If.result c.nests_within-in-If.ensures.exact
-        c.nests_within-in-If-2.ensures.exact c.both-in-If.ensures.exact in
+    (forms.nesting c.get-in-If-3.result.now) (c.args.limit - 1) c.nests_within-in-If.result
+    c.nests_within-in-If-2.result c.both-in-If.result c.nests_within-in-If.ensures.exact
+    c.nests_within-in-If-2.ensures.exact c.both-in-If.ensures.exact in
     record {
       exact = two_parts (forms.nesting c.args.e.now)
           (forms.condition_nesting c.get-in-If.result.now)

@@ -24,10 +24,10 @@ returns-in-Await t c =
 pub returns-else-limit-eq0 : goal.returns-else-limit-eq0
 returns-else-limit-eq0 t c =
     let arms = both_tests (forms.tree_nesting c.get.result.now)
-        (forms.tree_nesting c.get-in-If.result.now) (c.args.limit - 1)
-        c.tree_nests_within.result c.tree_nests_within-in-If.result c.both.result
-        c.tree_nests_within.ensures.exact c.tree_nests_within-in-If.ensures.exact
-        c.both.ensures.exact in
+    (forms.tree_nesting c.get-in-If.result.now) (c.args.limit - 1)
+    c.tree_nests_within.result c.tree_nests_within-in-If.result c.both.result
+    c.tree_nests_within.ensures.exact c.tree_nests_within-in-If.ensures.exact
+    c.both.ensures.exact in
     record {
       exact = two_parts (forms.tree_nesting c.args.t.now)
           (forms.condition_nesting c.in-If.cond)

@@ -23,9 +23,9 @@ loop-alloc-smaller c =
 pub loop-alloc-preserved : goal.loop-alloc-preserved
 loop-alloc-preserved c =
     rw c.in_ok-push.ensures.ok (names_go_on c.loop-alloc.found c.loop-alloc.tokens
-        c.in_ok-at_name.field-0 c.at_name.new.tokens _
-        (sym c.comes_kind.ensures.exact ∙ c.loop-alloc-test.true) c.in_ok-at_name.ensures.exact
-        c.loop-alloc.invariant)
+    c.in_ok-at_name.field-0 c.at_name.new.tokens _
+    (sym c.comes_kind.ensures.exact ∙ c.loop-alloc-test.true) c.in_ok-at_name.ensures.exact
+    c.loop-alloc.invariant)
 
 pub returns : goal.returns
 returns c =

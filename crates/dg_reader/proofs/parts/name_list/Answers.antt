@@ -1,7 +1,6 @@
 use Rattle.std.proofs.lemmas.Result.{err_from_is_err_and}
 use Rattle.dg_lex.specs.Bytes.{line_limit}
 use Rattle.dg_decl.specs.Readers as readers
-
 use Rattle.dg_reader.proofs.ListLemmas.{begins, goes_on, ends, fails, is_full}
 use Rattle.dg_reader.proofs.parts.name_list.Goals as goal
 
@@ -30,9 +29,9 @@ returns-then-not-eat c =
 pub loop-turn-preserved : goal.loop-turn-preserved
 loop-turn-preserved c =
     rw c.in_ok-push.ensures.ok (goes_on readers.name c.loop-turn.found line_limit
-        c.loop-turn._turn c.loop-turn.tokens c.name.new.tokens c.eat.new.self
-        c.in_ok-name.field-0 _ c.loop-turn-test.true c.in_ok-name.ensures.exact
-        (rw (← c.if-not-eat.false) c.eat.ensures.exact) c.loop-turn.invariant)
+    c.loop-turn._turn c.loop-turn.tokens c.name.new.tokens c.eat.new.self
+    c.in_ok-name.field-0 _ c.loop-turn-test.true c.in_ok-name.ensures.exact
+    (rw (← c.if-not-eat.false) c.eat.ensures.exact) c.loop-turn.invariant)
 
 pub returns : goal.returns
 returns c =

@@ -1,7 +1,6 @@
 use Rattle.std.proofs.Common.{◌≡◌, ◌-◌}
 use Rattle.dg_lex.specs.Bytes.{line_limit}
 use Rattle.dg_decl.specs.Readers as readers
-
 use Rattle.dg_reader.proofs.ListLemmas.{with_front}
 use Rattle.dg_reader.proofs.parts.name_list.Given as goal
 

@@ -32,9 +32,9 @@ returns-in_err-ask_step c =
 pub loop-turn-preserved : goal.loop-turn-preserved
 loop-turn-preserved c =
     rw c.in_ok-push.ensures.ok (steps_go_on c.loop-turn.found readers.list_limit
-        c.loop-turn._turn c.loop-turn.tokens c.ask_step.new.tokens c.in_ok-ask_step.field-0 _
-        c.loop-turn-test.true (sym c.is_empty.ensures.exact ∙ c.if-is_empty.false)
-        c.in_ok-ask_step.ensures.exact c.loop-turn.invariant)
+    c.loop-turn._turn c.loop-turn.tokens c.ask_step.new.tokens c.in_ok-ask_step.field-0 _
+    c.loop-turn-test.true (sym c.is_empty.ensures.exact ∙ c.if-is_empty.false)
+    c.in_ok-ask_step.ensures.exact c.loop-turn.invariant)
 
 pub returns-then-not-is_empty : goal.returns-then-not-is_empty
 returns-then-not-is_empty c =

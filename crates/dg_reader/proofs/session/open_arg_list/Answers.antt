@@ -8,7 +8,7 @@ use Rattle.dg_reader.proofs.session.open_arg_list.Goals as goal
 pub loop-turn-init : goal.loop-turn-init
 loop-turn-init c =
     rw c.new-found.ensures (begins (readers.list_of forms.open_arg readers.list_limit
-        c.args.tokens.now))
+    c.args.tokens.now))
 
 pub returns-in_err-open_arg : goal.returns-in_err-open_arg
 returns-in_err-open_arg c =
@@ -17,7 +17,7 @@ returns-in_err-open_arg c =
       exact = rw (p.1, p.2) (fails forms.open_arg c.loop-turn.found readers.list_limit
           c.loop-turn._turn
           c.loop-turn.tokens c.open_arg.new.tokens c.open_arg.new.tokens c.in_err-open_arg.field-0.0
-              _
+          _
           c.loop-turn-test.true c.in_err-open_arg.ensures.exact c.loop-turn.invariant);
     }
 
@@ -33,9 +33,9 @@ returns-then-not-eat c =
 pub loop-turn-preserved : goal.loop-turn-preserved
 loop-turn-preserved c =
     rw c.in_ok-push.ensures.ok (goes_on forms.open_arg c.loop-turn.found readers.list_limit
-        c.loop-turn._turn c.loop-turn.tokens c.open_arg.new.tokens c.eat.new.self
-        c.in_ok-open_arg.field-0 _ c.loop-turn-test.true c.in_ok-open_arg.ensures.exact
-        (rw (← c.if-not-eat.false) c.eat.ensures.exact) c.loop-turn.invariant)
+    c.loop-turn._turn c.loop-turn.tokens c.open_arg.new.tokens c.eat.new.self
+    c.in_ok-open_arg.field-0 _ c.loop-turn-test.true c.in_ok-open_arg.ensures.exact
+    (rw (← c.if-not-eat.false) c.eat.ensures.exact) c.loop-turn.invariant)
 
 pub returns : goal.returns
 returns c =

@@ -8,7 +8,7 @@ use Rattle.dg_reader.proofs.types.param_list.Goals as goal
 pub loop-turn-init : goal.loop-turn-init
 loop-turn-init c =
     rw c.new-found.ensures (begins (readers.list_of types.param readers.list_limit
-        c.args.tokens.now))
+    c.args.tokens.now))
 
 pub returns-in_err-param : goal.returns-in_err-param
 returns-in_err-param c =
@@ -32,9 +32,9 @@ returns-then-not-eat c =
 pub loop-turn-preserved : goal.loop-turn-preserved
 loop-turn-preserved c =
     rw c.in_ok-push.ensures.ok (goes_on types.param c.loop-turn.found readers.list_limit
-        c.loop-turn._turn c.loop-turn.tokens c.param.new.tokens c.eat.new.self
-        c.in_ok-param.field-0 _ c.loop-turn-test.true c.in_ok-param.ensures.exact
-        (rw (← c.if-not-eat.false) c.eat.ensures.exact) c.loop-turn.invariant)
+    c.loop-turn._turn c.loop-turn.tokens c.param.new.tokens c.eat.new.self
+    c.in_ok-param.field-0 _ c.loop-turn-test.true c.in_ok-param.ensures.exact
+    (rw (← c.if-not-eat.false) c.eat.ensures.exact) c.loop-turn.invariant)
 
 pub returns : goal.returns
 returns c =
