@@ -2,7 +2,9 @@
 #![tactic(auto)]
 
 mod names;
+mod noted;
 mod statement;
+mod table;
 
 pub use names::Names;
 pub use statement::Statement;

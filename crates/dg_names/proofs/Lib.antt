@@ -1,0 +1,4 @@
+pub mod TableLemmas
+pub mod StatementLemmas
+pub mod KnownLemmas
+pub mod ClassLemmas

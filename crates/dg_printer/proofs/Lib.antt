@@ -1,0 +1,15 @@
+pub mod Appending
+pub mod TypeLemmas
+pub mod ExpressionLemmas
+pub mod ItemLemmas
+pub mod ExamplesPrinting
+pub mod BackKinds
+pub mod BackWritten
+pub mod BackForms
+pub mod BackTokens
+pub mod BackItems
+pub mod BackKeeps
+pub mod BackReads
+pub mod BackFits
+pub mod BackLines
+pub mod BackDocument
