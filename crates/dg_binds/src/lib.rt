@@ -1,7 +1,11 @@
 //! Module members as bindings.
 #![tactic(auto)]
 
-mod bindings;
+mod keys;
+mod members;
 
-pub use bindings::bindings;
 pub use dg_decl::{Bind, BindKind};
+pub use members::bindings;
+
+#[cfg(test)]
+mod tests;

@@ -1,8 +1,19 @@
-//! The components that components depend on: the stage of dependencies, and what is exposed.
+//! The components that components depend on: the stage of dependencies, and what is exposed. Beside
+//! these, which instances are opened before a line.
 #![tactic(auto)]
 
-mod depends;
-mod exposed;
+mod below;
+mod classes;
+mod depending;
+mod exposing;
+mod line;
+mod named;
+mod opened;
 
-pub use depends::depends;
-pub use exposed::exposed;
+pub use depending::depends;
+pub use exposing::exposed;
+pub use line::at_line;
+pub use opened::{class_of_instance, class_opened, opened_before};
+
+#[cfg(test)]
+mod tests;

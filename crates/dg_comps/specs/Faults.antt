@@ -1,5 +1,5 @@
 -- Why there is no component tree.
-use Rattle.std.specs.Prelude.{◌≡◌, ◌≢◌, [], Unit}
+use Rattle.std.specs.Prelude.{◌≡◌, ◌≢◌, []}
 use Rattle.dg_decl.specs.declared.document.Doc.{Doc}
 use Rattle.dg_decl.specs.Stages.Components.{components_stage}
 use Rattle.dg_comps.specs.declared.fault.TreeFault.{TreeFault}

@@ -1,1 +1,10 @@
+pub mod Broken
+pub mod ClassSets
+pub mod ClassTables
+pub mod Entries
 pub mod Faults
+pub mod Known
+pub mod Members
+pub mod Rows
+pub mod Stands
+pub mod Tables

@@ -1,5 +1,4 @@
 -- Why a document isn't read.
-use Rattle.std.specs.Prelude.{Unit}
 use Rattle.dg_lex.specs.Bytes.{Bytes}
 use Rattle.dg_decl.specs.Reading.{FirstBad}
 use Rattle.dg_reader.specs.declared.fault.ReadDocFault.{ReadDocFault}

@@ -1,1 +1,5 @@
 pub mod Faults
+pub mod Gives
+pub mod Budgets
+pub mod Drafts
+pub mod Adding

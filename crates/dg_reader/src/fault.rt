@@ -1,7 +1,42 @@
 ghost use Rattle.std.specs.Prelude.{◌≡◌};
+ghost use Rattle.dg_reader.specs.declared.fault.FormFault.TheVariants as form;
 ghost use Rattle.dg_reader.specs.declared.fault.ReadDocFault.TheVariants as fault;
 
 use dg_types::NoMemory;
+use std::alloc::{AllocError, AllocFailed};
+
+/// Why the tokens of a line aren't read as an item.
+#[derive(Clone, Copy, Debug, PartialEq, Eq)]
+pub enum FormFault {
+    /// They are in none of the forms.
+    NoForm,
+    /// There was no memory.
+    NoMemory,
+}
+
+impl From<AllocError> for FormFault {
+    ghost from_gives = { λ _ e. e ≡ form.NoMemory };
+
+    fn from(_: AllocError) -> FormFault {
+        FormFault::NoMemory
+    }
+}
+
+impl<T: Drop> From<AllocFailed<T>> for FormFault {
+    ghost from_gives = { λ _ e. e ≡ form.NoMemory };
+
+    fn from(_: AllocFailed<T>) -> FormFault {
+        FormFault::NoMemory
+    }
+}
+
+impl From<NoMemory> for FormFault {
+    ghost from_gives = { λ _ e. e ≡ form.NoMemory };
+
+    fn from(_: NoMemory) -> FormFault {
+        FormFault::NoMemory
+    }
+}
 
 /// Why a document isn't read.
 #[derive(Clone, Copy, Debug, PartialEq, Eq)]

@@ -1,9 +1,20 @@
 //! What a component class finds for a key.
 #![tactic(auto)]
 
-mod find;
+mod along;
+mod chains;
+mod classes;
+mod explicit;
+mod keys;
 mod lookups;
+mod members;
+mod single;
+mod table;
+mod tables;
 
 pub use dg_decl::{BindRef, Found, Owned};
-pub use find::find;
 pub use lookups::Lookups;
+pub use single::find;
+
+#[cfg(test)]
+mod tests;

@@ -1,8 +1,9 @@
 //! The stages of names and of types.
 #![tactic(auto)]
 
-mod names;
-mod types;
+mod names_stage;
+mod types_stage;
+mod violation;
 
-pub use names::names;
-pub use types::types;
+pub use names_stage::names;
+pub use types_stage::types;

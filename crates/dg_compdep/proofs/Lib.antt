@@ -1,0 +1,5 @@
+pub mod ExposingLemmas
+pub mod BelowLemmas
+pub mod NamedLemmas
+pub mod DependencyLemmas
+pub mod OpenedLemmas

@@ -1,0 +1,3 @@
+pub mod Exposing
+pub mod Below
+pub mod Dependencies

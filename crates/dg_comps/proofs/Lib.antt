@@ -1,0 +1,10 @@
+pub mod SetLemmas
+pub mod ParentLemmas
+pub mod StatementLemmas
+pub mod RowLemmas
+pub mod ModuleLemmas
+pub mod TableLemmas
+pub mod EntryLemmas
+pub mod BlockLemmas
+pub mod BrokenLemmas
+pub mod SmallLemmas

@@ -1,0 +1,15 @@
+pub mod RunGrowth
+pub mod BodyGrowth
+pub mod GrowthLemmas
+pub mod RunResults
+pub mod ValueLemmas
+pub mod BodyResults
+pub mod ConstantLemmas
+pub mod TargetLemmas
+pub mod TotalLemmas
+pub mod NodeLemmas
+pub mod AcceptedDepth
+pub mod LawLemmas
+pub mod TypingCalls
+pub mod NumberedCalls
+pub mod CallLemmas

@@ -1,0 +1,9 @@
+pub mod Runs
+pub mod World
+pub mod Operations
+pub mod Bodies
+pub mod Meaning
+pub mod Asks
+pub mod Report
+pub mod At
+pub mod Laws

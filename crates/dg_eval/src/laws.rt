@@ -1,0 +1,16 @@
+//! The laws of evaluation.
+
+ghost use Rattle.dg_eval.specs.Laws.{EvaluationIsTotal, MoreDepthChangesNothing};
+
+/// More depth changes nothing, in any document: where evaluation at a depth has a result, it is the
+/// same at every greater depth.
+pub fn more_depth_changes_nothing()
+    ensures exact { MoreDepthChangesNothing }
+{}
+
+/// Evaluation is total: in an accepted document each slot that is no entry has a result at a depth
+/// of 128 in each instance of its class, whatever the place and the mode, and the same result at
+/// every greater depth.
+pub fn evaluation_is_total()
+    ensures exact { EvaluationIsTotal }
+{}

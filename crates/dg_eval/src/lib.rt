@@ -1,0 +1,6 @@
+//! What an evaluation gives, and what an ask comes to.
+#![tactic(auto)]
+
+mod laws;
+
+pub use laws::{evaluation_is_total, more_depth_changes_nothing};

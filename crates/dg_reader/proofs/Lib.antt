@@ -1,0 +1,15 @@
+pub mod TypeSteps
+pub mod ConstantSteps
+pub mod ListLemmas
+pub mod SplitLemmas
+pub mod NestingLemmas
+pub mod BudgetLemmas
+pub mod RowLemmas
+pub mod ParenLemmas
+pub mod AtNameLemmas
+pub mod LexemeLemmas
+pub mod StepLemmas
+pub mod TreeSteps
+pub mod DraftLemmas
+pub mod ReadingLemmas
+pub mod BoundLemmas

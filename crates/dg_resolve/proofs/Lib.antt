@@ -1,0 +1,11 @@
+pub mod ExplicitLemmas
+pub mod ExplicitPass
+pub mod FoundLemmas
+pub mod GrowthLemmas
+pub mod KeyLemmas
+pub mod LineLemmas
+pub mod ListLemmas
+pub mod MemberRows
+pub mod QueryLemmas
+pub mod StatementLemmas
+pub mod TableLemmas

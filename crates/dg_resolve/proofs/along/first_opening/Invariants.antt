@@ -1,0 +1,9 @@
+use Rattle.std.proofs.Common.{◌≡◌, drop}
+use Rattle.dg_resolve.specs.Keys.{opening_key}
+use Rattle.dg_resolve.specs.Known.{in_chain}
+use Rattle.dg_resolve.proofs.along.first_opening.Given as goal
+
+abbrev pub invariant-loop-class : goal.invariant-loop-class
+invariant-loop-class l =
+    in_chain l.tables (opening_key l.key) (drop l.class-index l.chain)
+    ≡ in_chain l.tables (opening_key l.key) l.chain

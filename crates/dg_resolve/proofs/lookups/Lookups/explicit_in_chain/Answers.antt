@@ -1,0 +1,18 @@
+use Rattle.std.proofs.Common.{◌≡◌, List, ap, subst, ◌∙◌}
+use Rattle.std.specs.Prelude.{IfOk}
+use Rattle.dg_decl.specs.declared.document.Doc.{Doc}
+use Rattle.dg_decl.specs.declared.binding.Owned.{Owned}
+use Rattle.dg_resolve.specs.Known.{in_chain, HaveExplicit}
+use Rattle.dg_resolve.proofs.QueryLemmas.{explicit_found}
+use Rattle.dg_resolve.proofs.lookups.Lookups.explicit_in_chain.Goals as goal
+
+pub returns : goal.returns
+returns c =
+    let tables = c.self.inside.tables.explicit in
+    let key = c.args.key.now in
+    let have = subst (λ (d : Doc). HaveExplicit d tables) c.self.view_is c.self.invariant.tables.explicit in
+    record {
+      exact = subst (λ (v : List Owned). IfOk c.in_chain.result (λ found. found.items ≡ v))
+          (ap (in_chain tables key) c.chain.ensures.exact
+          ∙ explicit_found c.args.self.now tables c.args.class key have c.requires) c.in_chain.ensures.exact;
+    }

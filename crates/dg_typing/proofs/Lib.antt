@@ -1,0 +1,11 @@
+pub mod TypeEquations
+pub mod TypeExpressions
+pub mod TypeArguments
+pub mod TypePlaces
+pub mod TypeTrees
+pub mod TypeRules
+pub mod NamesWanted
+pub mod NamesJudged
+pub mod NamesLines
+pub mod NamesRepeated
+pub mod NamesFolds

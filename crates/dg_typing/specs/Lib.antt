@@ -1,0 +1,7 @@
+pub mod TypesGiven
+pub mod TypesFields
+pub mod TypesByName
+pub mod TypesPlaced
+pub mod NamesWanted
+pub mod NamesJudged
+pub mod NamesLines

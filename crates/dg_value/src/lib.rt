@@ -1,0 +1,8 @@
+//! Values, the places that name objects, and what becomes of an ask.
+#![tactic(auto)]
+
+mod place;
+mod value;
+
+pub use place::{Place, PlaceRoot, PlaceStep, Steps};
+pub use value::{Failure, Kept, Reply, Value};
