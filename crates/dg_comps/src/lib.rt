@@ -18,6 +18,3 @@ mod stage_tables;
 pub use building::tree;
 pub use dg_decl::{Bound, Class, CompTree, Exposed};
 pub use fault::TreeFault;
-
-#[cfg(test)]
-mod tests;

@@ -21,6 +21,3 @@ mod types;
 
 pub use document::read_doc;
 pub use fault::ReadDocFault;
-
-#[cfg(test)]
-mod tests;
