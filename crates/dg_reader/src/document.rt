@@ -47,7 +47,7 @@ pub fn read_doc(alloc: Global, bytes: &[u8]) -> Result<Doc, ReadDocFault>
     requires { length bytes.now ≤ 4194304 }
     ensures exact { IfOk result (Reads bytes.now) }
     ensures bounded { IfOk result IsBounded }
-    // BadLine comes exactly at the first bad line, and NoMemory only where a line is of tokens.
+    // BadLine names the first bad line; of NoMemory no clause says when it comes.
     ensures cause { IfErr result (IsFaultOf bytes.now) }
 {
     let mut draft = Draft::new(alloc);
