@@ -6,6 +6,3 @@ mod members;
 
 pub use dg_decl::{Bind, BindKind};
 pub use members::bindings;
-
-#[cfg(test)]
-mod tests;

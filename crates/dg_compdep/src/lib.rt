@@ -14,6 +14,3 @@ pub use depending::depends;
 pub use exposing::exposed;
 pub use line::at_line;
 pub use opened::{class_of_instance, class_opened, opened_before};
-
-#[cfg(test)]
-mod tests;

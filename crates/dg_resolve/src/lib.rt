@@ -15,6 +15,3 @@ mod tables;
 pub use dg_decl::{BindRef, Found, Owned};
 pub use lookups::Lookups;
 pub use single::find;
-
-#[cfg(test)]
-mod tests;
