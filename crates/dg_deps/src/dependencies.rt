@@ -26,25 +26,25 @@ pub struct Dependencies<'a> {
 
 impl<'a> Model for Dependencies<'a> {
     ghost use Rattle.std.specs.Coded.{codes};
-    ghost use Rattle.dg_decl.specs.contracts.expression.Expr as expr;
-    ghost use Rattle.dg_decl.specs.contracts.expression.Tree as tree;
+    ghost use Rattle.dg_decl.specs.contracts.expression.Expr as expr_type;
+    ghost use Rattle.dg_decl.specs.contracts.expression.Tree as tree_type;
     ghost use Rattle.dg_decl.specs.declared.document.Doc.{Doc};
     ghost use Rattle.dg_deps.specs.Known.{AreDependencies};
-    ghost use Rattle.dg_types.specs.contracts.shape.Shape as shape;
+    ghost use Rattle.dg_types.specs.contracts.shape.Shape as shape_type;
 
     ghost Value = { Doc };
 
     ghost coded = { Prim.hlevel (
       codes,
-      shape.the_row.coded,
-      expr.the_row.coded,
-      tree.the_row.coded,
+      shape_type.the_row.coded,
+      expr_type.the_row.coded,
+      tree_type.the_row.coded,
     ) };
 
     ghost view = { λ d. d.doc.now };
 
     ghost invariant = { λ d.
-      AreDependencies d.doc.now d.tree.now d.bindings.now d.exposed.now d.lookups };
+        AreDependencies d.doc.now d.tree.now d.bindings.now d.exposed.now d.lookups };
 }
 
 impl<'a> Dependencies<'a> {
@@ -116,7 +116,8 @@ impl<'a> Dependencies<'a> {
         requires class { node.now.class < class_count self.now }
         ensures exact { IfOk result (λ needed. needed.items ≡ graph.deps self.now node.now) }
     {
-        let _ = (alloc, node);
+        let _ = alloc;
+        let _ = node;
         Err(NoMemory)
     }
 }
