@@ -1,3 +1,4 @@
 pub mod Exposing
 pub mod Below
 pub mod Dependencies
+pub mod Faults

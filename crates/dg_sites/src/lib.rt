@@ -1,0 +1,6 @@
+//! How the nodes of the graph and their requests are named.
+#![tactic(auto)]
+
+mod sites;
+
+pub use sites::{Sites, site_text};

