@@ -35,7 +35,8 @@ use Rattle.dg_value.specs.Same.{Layer}
 use Rattle.dg_eval.specs.Runs.{Asked, cell, Run, gives, and_then, all}
 use Rattle.dg_eval.specs.Operations.{or_mistyped, only_of, elements_at, elements_in, kept_in, value_if}
 use Rattle.dg_eval.specs.Bodies.{End, value_end, producer_end, Around, tree_part}
-use Rattle.dg_eval.specs.Meaning.{node_at, cell_place, Eval, content, look, Target, target_of, given, param_in, around, body_of, end_with, object_of, of_end, member_end, gives_elements, outcomes_in, added_by, added_by_all, set_of_added, pairs, multi_of, optional_of, binding_at, eval_node, eval}
+use Rattle.dg_eval.specs.Meaning.{node_at, cell_place, Eval, content, look, Target, target_of, given, param_in, around, body_of, end_with, object_of, of_end, member_end, outcomes_in, added_by, added_by_all, set_of_added, pairs, multi_of, optional_of, binding_at, eval_node, eval}
+use Rattle.dg_slots.specs.Plans.{gives_elements}
 use Rattle.dg_eval.specs.At.{calls_of}
 use Rattle.dg_eval.proofs.RunResults.{Gives, Each, each_append, then_gives, asking_gives, or_gives, Along}
 use Rattle.dg_eval.proofs.ValueLemmas.{AllIn, InEntry, InLayer, layer_of, in_object, in_set, in_map, in_none, in_some, in_good}

@@ -29,6 +29,7 @@ use Rattle.dg_decl.specs.Sizes.{scope_of, is_producer, is_production}
 use Rattle.dg_decl.specs.Stages.Bindings.{map_keys_of}
 use Rattle.dg_slots.specs.declared.body.NTree.{NTree}
 use Rattle.dg_slots.specs.declared.body.NTree.TheVariants as ntree
+use Rattle.dg_slots.specs.Plans.{gives_elements}
 use Rattle.dg_slots.specs.Numbered.{number_of_class_item, numbered_expr, numbered_tree}
 use Rattle.dg_value.specs.declared.place.Place.{Place}
 use Rattle.dg_value.specs.declared.place.PlaceRoot.TheVariants as root
@@ -240,24 +241,6 @@ member_end doc below depth i k n q m =
     option_map_or (λ x. end_with doc below depth k q x vs) (item_at doc m) mistyped)
 
 -- ---- sets, maps and optionals
-
-abbrev pub elements_mark : Option Mark → Bool
-elements_mark (Some mark.ElementsIntoSet) = true
-elements_mark other = false
-
-abbrev pub mark_of : Item → Option Mark
-mark_of (item.Provides m scope n params result body) = m
-mark_of (item.Binds m scope n param result) = m
-mark_of (item.Produces m n params result body) = m
-mark_of other = None
-
--- the members of what a contribution gives are the elements
-abbrev pub gives_elements : Doc → Owned → Bool
-gives_elements doc o = of_ref o.binding
-  where
-    of_ref : BindRef → Bool
-    of_ref (binding.Member i) = option_map_or (λ x. elements_mark (mark_of x)) (item_at doc i) false
-    of_ref other = false
 
 -- the outcomes of the members of a set whose production gave it; a production that failed is one
 -- outcome

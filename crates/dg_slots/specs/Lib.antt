@@ -1,3 +1,4 @@
 pub mod Numbered
 pub mod Sessions
 pub mod Links
+pub mod Plans
