@@ -14,7 +14,8 @@ use std::alloc::Global;
 
 /// The class that a dependency of a class names, by its index.
 fn dep_at(classes: &[Class], class: u32, dep: u32) -> Option<u32>
-    ensures exact { result ≡ option_and_then (λ x. slice_get x.deps dep) (slice_get classes.now class) }
+    ensures exact { result
+        ≡ option_and_then (λ row. slice_get row.deps dep) (slice_get classes.now class) }
 {
     match classes.get(class as usize) {
         Some(row) => row.deps.get(dep as usize).copied(),

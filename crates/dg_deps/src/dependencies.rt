@@ -113,8 +113,8 @@ impl<'a> Dependencies<'a> {
         &self.lookups
     }
 
-    /// What a node needs, in order: the requests of its parameters, its contributions, its inside or
-    /// its one request.
+    /// What a node needs, in order: the requests of its parameters, its contributions, its inside
+    /// or its one request.
     #[tactic(auto, unfolding(dg_decl::specs::Graph::deps))]
     pub fn of_node(&self, alloc: Global, node: &Node) -> Result<Vec<Dependency<'a>>, NoMemory>
         requires class { node.now.class < class_count self.now }

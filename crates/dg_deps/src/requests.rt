@@ -1,7 +1,8 @@
 //! The requests of parameters and entry points.
 
-ghost use Rattle.std.specs.Prelude.{◌≡◌, ◌∷◌, ◌<◌, [], IfOk, Some, None, option_map, option_and_then};
+ghost use Rattle.std.specs.Prelude.{◌≡◌, ◌∷◌, ◌<◌, [], IfOk, option_map};
 ghost use Rattle.std.specs.List.{filter_map};
+ghost use Rattle.std.specs.Option.{option_and_then};
 ghost use Rattle.dg_decl.specs.Components.{class_count};
 ghost use Rattle.dg_decl.specs.Graph as graph;
 ghost use Rattle.dg_decl.specs.Names as names;

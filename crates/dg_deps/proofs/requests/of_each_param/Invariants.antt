@@ -5,4 +5,5 @@ use Rattle.dg_deps.proofs.requests.of_each_param.Given as goal
 
 abbrev pub invariant-loop-param : goal.invariant-loop-param
 invariant-loop-param l =
-    l.needed.items ≡ filter_map (graph.of_param l.dependencies l.class) (take l.param-index l.params)
+    l.needed.items
+    ≡ filter_map (graph.of_param l.dependencies l.class) (take l.param-index l.params)
