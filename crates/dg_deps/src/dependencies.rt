@@ -5,8 +5,11 @@ ghost use Rattle.dg_decl.specs.Diagnostics.{PassesDependencies};
 ghost use Rattle.dg_decl.specs.Graph as graph;
 ghost use Rattle.dg_decl.specs.Lookup as lookup;
 
+use crate::bound::of_binding;
 use crate::dependency::Dependency;
-use dg_decl::{Bind, CompTree, Doc, Exposed, Node};
+use crate::groups::{of_contributions, of_inside};
+use crate::requests::of_entry;
+use dg_decl::{Bind, CompTree, Doc, Exposed, Node, NodeKind};
 use dg_resolve::Lookups;
 use dg_types::NoMemory;
 use sqlite_items::Items;
@@ -110,14 +113,18 @@ impl<'a> Dependencies<'a> {
         &self.lookups
     }
 
-    /// What a node needs, in order: the requests of its parameters, its contributions, its inside or
-    /// its one request.
+    /// What a node needs, in order: the requests of its parameters, its contributions, its inside
+    /// or its one request.
+    #[tactic(auto, unfolding(dg_decl::specs::Graph::deps))]
     pub fn of_node(&self, alloc: Global, node: &Node) -> Result<Vec<Dependency<'a>>, NoMemory>
         requires class { node.now.class < class_count self.now }
         ensures exact { IfOk result (λ needed. needed.items ≡ graph.deps self.now node.now) }
     {
-        let _ = alloc;
-        let _ = node;
-        Err(NoMemory)
+        match &node.kind {
+            NodeKind::Bound(binding) => of_binding(alloc, self, node.class, *binding),
+            NodeKind::Multi(key) => of_contributions(alloc, self, node.class, key),
+            NodeKind::Opt(key) => of_inside(alloc, self, node.class, key),
+            NodeKind::EntryOf(entry) => of_entry(alloc, self, node.class, *entry),
+        }
     }
 }

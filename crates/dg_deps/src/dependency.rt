@@ -1,7 +1,8 @@
 ghost use Rattle.std.specs.Prelude.{◌≡◌, IfOk};
 ghost use Rattle.dg_decl.specs.Graph as graph;
+ghost use Rattle.dg_decl.specs.declared.graph.NodeKind.TheVariants as kind;
 
-use dg_decl::{Found, Node};
+use dg_decl::{Found, Node, NodeKind};
 use dg_types::{Key, Mode, Name, NoMemory};
 use std::alloc::Global;
 use std::marker::Model;
@@ -38,13 +39,43 @@ impl<'a> Model for Dependency<'a> {
     } };
 }
 
+/// The node of a set or map.
+fn multi(alloc: Global, class: u32, key: &Key) -> Result<Node, NoMemory>
+    ensures exact { IfOk result (λ node. node ≡ graph.node_of class (kind.Multi key.now)) }
+{
+    Ok(Node {
+        class,
+        kind: NodeKind::Multi(key.copy(alloc)?),
+    })
+}
+
+/// The node to which what a class finds for a key leads.
+fn node_found(alloc: Global, class: u32, key: &Key, found: &Found) -> Result<Option<Node>, NoMemory>
+    ensures exact { IfOk result (λ node. node ≡ graph.node_found class key.now found.now) }
+{
+    match found {
+        Found::One { owner, binding } => Ok(Some(Node {
+            class: *owner,
+            kind: NodeKind::Bound(*binding),
+        })),
+        Found::SetOf(_) => Ok(Some(multi(alloc, class, key)?)),
+        Found::MapOf(_) => Ok(Some(multi(alloc, class, key)?)),
+        Found::OptionalOf => Ok(Some(Node {
+            class,
+            kind: NodeKind::Opt(key.copy(alloc)?),
+        })),
+        Found::Many(_) => Ok(None),
+        Found::BadScope { item: _ } => Ok(None),
+        Found::Nothing => Ok(None),
+    }
+}
+
 impl<'a> Dependency<'a> {
     /// The node to which it leads; None where it finds nothing, many bindings, or a class whose
     /// scope no class of the chain carries.
     pub fn target(&self, alloc: Global) -> Result<Option<Node>, NoMemory>
         ensures exact { IfOk result (λ node. node ≡ graph.target self.now) }
     {
-        let _ = alloc;
-        Err(NoMemory)
+        node_found(alloc, self.class, &self.key, &self.found)
     }
 }
