@@ -274,3 +274,9 @@ links_end doc ss i lists all le ge is =
     let whole : i ≡ length ss = omega arith in
     is ∙ ap (flat_map (links_by doc)) (ap (λ n. take n ss) whole ∙ take-length ss ∙ all)
     ∙ all_linked doc (statements doc)
+
+-- ---- empty lists
+
+pub no_items : {A : Type 0} (xs : List A) → length xs ≡ 0 → xs ≡ []
+no_items [] e = refl
+no_items (x ∷ xs) e = absurd (omega arith)
