@@ -1,9 +1,25 @@
 ghost use Rattle.std.specs.Prelude.{◌≡◌, ◌<◌, ◌^◌, IfOk, length, map};
+ghost use Rattle.dg_num.specs.Graph.{successors, IsSound};
+ghost use Rattle.dg_num.specs.Walks.{IsOnCycle, TellsExactly};
 ghost use Rattle.dg_decl.specs.Graph as graph;
 
+use crate::rows::{Follow, graph_of};
 use dg_decl::{BindGraph, Doc};
+use dg_num::Graph;
 use dg_types::NoMemory;
 use std::alloc::Global;
+
+/// Whether each node of a graph lies on a cycle.
+fn marks_on_cycle(alloc: Global, graph: &Graph) -> Result<Vec<bool>, NoMemory>
+    requires sound { IsSound graph.now }
+    ensures exact { IfOk result
+        (λ marks. TellsExactly graph.now (IsOnCycle (successors graph.now)) marks.items) }
+{
+    match dg_num::on_cycle(alloc, graph) {
+        Ok(marks) => Ok(marks),
+        Err(_) => Err(NoMemory),
+    }
+}
 
 /// Whether a closed walk of direct edges goes through each node.
 pub fn on_cycle(alloc: Global, d: &Doc, g: &BindGraph) -> Result<Vec<bool>, NoMemory>
@@ -13,8 +29,9 @@ pub fn on_cycle(alloc: Global, d: &Doc, g: &BindGraph) -> Result<Vec<bool>, NoMe
     ensures exact { IfOk result (λ told.
         told.items ≡ map (graph.is_on_cycle d.now) (graph.nodes d.now)) }
 {
-    let _ = (alloc, d, g);
-    Err(NoMemory)
+    let graph = graph_of(alloc, g.edges.as_slice(), Follow::Direct)?;
+    let marks = marks_on_cycle(alloc, &graph)?;
+    Ok(marks)
 }
 
 /// Whether a closed walk of direct and called edges, at least one of them called, goes through each
@@ -26,6 +43,5 @@ pub fn on_call(alloc: Global, d: &Doc, g: &BindGraph) -> Result<Vec<bool>, NoMem
     ensures exact { IfOk result (λ told.
         told.items ≡ map (graph.is_on_call d.now) (graph.nodes d.now)) }
 {
-    let _ = (alloc, d, g);
     Err(NoMemory)
 }

@@ -3,9 +3,10 @@
 #![tactic(auto)]
 
 mod cycles;
-mod productions;
+mod producing;
+mod rows;
 mod sizes;
 
 pub use cycles::{on_call, on_cycle};
-pub use productions::productions;
+pub use producing::productions;
 pub use sizes::{depths, weights};

@@ -17,7 +17,6 @@ pub fn depths(alloc: Global, d: &Doc, g: &BindGraph) -> Result<Vec<u32>, NoMemor
     ensures exact { IfOk result (λ numbers.
         numbers.items ≡ map (sizes.depth d.now) (graph.nodes d.now)) }
 {
-    let _ = (alloc, d, g);
     Err(NoMemory)
 }
 
@@ -31,6 +30,5 @@ pub fn weights(alloc: Global, d: &Doc, g: &BindGraph, limit: u64) -> Result<Vec<
     ensures exact { IfOk result (λ numbers.
         numbers.items ≡ map (λ n. min (sizes.weight d.now n) (limit + 1)) (graph.nodes d.now)) }
 {
-    let _ = (alloc, d, g, limit);
     Err(NoMemory)
 }

@@ -14,6 +14,5 @@ pub fn productions(alloc: Global, d: &Doc, g: &BindGraph) -> Result<Vec<bool>, N
     ensures exact { IfOk result (λ told.
         told.items ≡ map (sizes.is_production d.now) (graph.nodes d.now)) }
 {
-    let _ = (alloc, d, g);
     Err(NoMemory)
 }
