@@ -1,3 +1,4 @@
 pub mod NumberLemmas
 pub mod RowLemmas
 pub mod CycleLemmas
+pub mod ProductionLemmas

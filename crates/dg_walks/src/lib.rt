@@ -3,9 +3,11 @@
 #![tactic(auto)]
 
 mod cycles;
+mod items;
 mod producing;
 mod rows;
 mod sizes;
+mod turned;
 
 pub use cycles::{on_call, on_cycle};
 pub use producing::productions;
