@@ -2,3 +2,4 @@ pub mod NumberLemmas
 pub mod RowLemmas
 pub mod CycleLemmas
 pub mod ProductionLemmas
+pub mod DepthLemmas

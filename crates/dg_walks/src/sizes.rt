@@ -1,11 +1,28 @@
 ghost use Rattle.std.specs.Prelude.{◌≡◌, ◌<◌, ◌^◌, ◌+◌, [], IfOk, length, map, min};
+ghost use Rattle.dg_num.specs.Graph.{successors, IsSound};
+ghost use Rattle.dg_num.specs.Walks.{IsAcyclic, RanksExactly};
 ghost use Rattle.dg_decl.specs.Graph as graph;
 ghost use Rattle.dg_decl.specs.Sizes as sizes;
 ghost use Rattle.dg_decl.specs.Stages.Bindings.{bindings_stage};
 
+use crate::rows::{Follow, graph_of};
 use dg_decl::{BindGraph, Doc};
+use dg_num::{Graph, RankFault, ranks};
 use dg_types::NoMemory;
 use std::alloc::Global;
+
+/// The number of nodes on the longest walk from each node of a graph without cycles.
+fn longest_walks(alloc: Global, graph: &Graph) -> Result<Vec<u32>, NoMemory>
+    requires sound { IsSound graph.now }
+    requires acyclic { IsAcyclic (successors graph.now) }
+    ensures exact { IfOk result (λ ranks. RanksExactly graph.now ranks.items) }
+{
+    match ranks(alloc, graph) {
+        Ok(ranks) => Ok(ranks),
+        Err(RankFault::NoMemory) => Err(NoMemory),
+        Err(RankFault::Cyclic { .. }) => unreachable!(),
+    }
+}
 
 /// The depth of each node: the number of nodes on the longest walk of direct and called edges that
 /// begins there.
@@ -17,7 +34,9 @@ pub fn depths(alloc: Global, d: &Doc, g: &BindGraph) -> Result<Vec<u32>, NoMemor
     ensures exact { IfOk result (λ numbers.
         numbers.items ≡ map (sizes.depth d.now) (graph.nodes d.now)) }
 {
-    Err(NoMemory)
+    let graph = graph_of(alloc, g.edges.as_slice(), Follow::Needed)?;
+    let depths = longest_walks(alloc, &graph)?;
+    Ok(depths)
 }
 
 /// The weight of each node, or the limit and one where it is past that.
