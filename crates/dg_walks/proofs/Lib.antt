@@ -3,3 +3,4 @@ pub mod RowLemmas
 pub mod CycleLemmas
 pub mod ProductionLemmas
 pub mod DepthLemmas
+pub mod CallLemmas

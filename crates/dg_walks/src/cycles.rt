@@ -3,7 +3,9 @@ ghost use Rattle.dg_num.specs.Graph.{successors, IsSound};
 ghost use Rattle.dg_num.specs.Walks.{IsOnCycle, TellsExactly};
 ghost use Rattle.dg_decl.specs.Graph as graph;
 
+use crate::calls::mark_calls;
 use crate::rows::{Follow, graph_of};
+use crate::turned::reversed;
 use dg_decl::{BindGraph, Doc};
 use dg_num::Graph;
 use dg_types::NoMemory;
@@ -35,7 +37,8 @@ pub fn on_cycle(alloc: Global, d: &Doc, g: &BindGraph) -> Result<Vec<bool>, NoMe
 }
 
 /// Whether a closed walk of direct and called edges, at least one of them called, goes through each
-/// node.
+/// node. Time grows with the nodes and edges where no called edge joins two nodes on cycles; each
+/// node with such an edge may cost two searches through the graph.
 pub fn on_call(alloc: Global, d: &Doc, g: &BindGraph) -> Result<Vec<bool>, NoMemory>
     requires nodes { g.now.nodes ≡ graph.nodes d.now }
     requires edges { g.now.edges ≡ graph.edge_lists d.now }
@@ -43,5 +46,10 @@ pub fn on_call(alloc: Global, d: &Doc, g: &BindGraph) -> Result<Vec<bool>, NoMem
     ensures exact { IfOk result (λ told.
         told.items ≡ map (graph.is_on_call d.now) (graph.nodes d.now)) }
 {
-    Err(NoMemory)
+    let graph = graph_of(alloc, g.edges.as_slice(), Follow::Needed)?;
+    let called = graph_of(alloc, g.edges.as_slice(), Follow::Called)?;
+    let turned = reversed(alloc, &graph)?;
+    let on_cycle = marks_on_cycle(alloc, &graph)?;
+    let marks = mark_calls(alloc, &graph, &turned, &called, &on_cycle)?;
+    Ok(marks)
 }
