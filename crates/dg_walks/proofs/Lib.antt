@@ -4,3 +4,4 @@ pub mod CycleLemmas
 pub mod ProductionLemmas
 pub mod DepthLemmas
 pub mod CallLemmas
+pub mod BodyLemmas

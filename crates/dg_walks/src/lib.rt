@@ -2,6 +2,7 @@
 //! node by its number.
 #![tactic(auto)]
 
+mod bodies;
 mod calls;
 mod cycles;
 mod items;
