@@ -5,3 +5,4 @@ pub mod ProductionLemmas
 pub mod DepthLemmas
 pub mod CallLemmas
 pub mod BodyLemmas
+pub mod WeightLemmas

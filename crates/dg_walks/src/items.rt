@@ -1,12 +1,13 @@
 //! What the item of a node says.
 
-ghost use Rattle.std.specs.Prelude.{◌≡◌, ◌||◌, false, not};
+ghost use Rattle.std.specs.Prelude.{◌≡◌, ◌≤◌, ◌^◌, ◌||◌, false, is_some, min, not};
 ghost use Rattle.std.specs.Option.{option_map_or, option_copied};
 ghost use Rattle.dg_decl.specs.Graph.{inner_of};
 ghost use Rattle.dg_decl.specs.Names.{item_at};
 ghost use Rattle.dg_decl.specs.Sizes as sizes;
 ghost use Rattle.dg_walks.specs.Passed as spec;
 
+use crate::bodies::{plus, size_of_expr, size_of_tree};
 use dg_decl::{BindRef, Doc, Item, Node, NodeKind};
 use dg_types::{Core, Inner};
 
@@ -114,5 +115,78 @@ pub(crate) fn passes_on(d: &Doc, node: &Node) -> bool
         NodeKind::Multi(key) => !gives_providers(&key.core),
         NodeKind::Opt(_) => false,
         NodeKind::EntryOf(_) => false,
+    }
+}
+
+/// Whether the item has a scope.
+fn has_scope(item: &Item) -> bool
+    ensures exact { result ≡ is_some (sizes.scope_of_item item.now) }
+{
+    match item {
+        Item::Class { scope, .. } => scope.is_some(),
+        Item::Provides { scope, .. } => scope.is_some(),
+        Item::Binds { scope, .. } => scope.is_some(),
+        _ => false,
+    }
+}
+
+/// Whether the binding of the node has a scope.
+fn is_scoped(d: &Doc, node: &Node) -> bool
+    ensures exact { result ≡ is_some (sizes.scope_of d.now node.now) }
+{
+    match item_of_node(d, node) {
+        Some(item) => has_scope(item),
+        None => false,
+    }
+}
+
+/// Whether the node is a bound instance.
+fn is_bound_instance(node: &Node) -> bool
+    ensures exact { result ≡ sizes.is_bound_instance node.now }
+{
+    match &node.kind {
+        NodeKind::Bound(BindRef::Member(_)) => false,
+        NodeKind::Bound(BindRef::ClassItem(_)) => false,
+        NodeKind::Bound(BindRef::Arg(_)) => true,
+        NodeKind::Bound(BindRef::Default) => true,
+        NodeKind::Bound(BindRef::Exposed { .. }) => false,
+        NodeKind::Multi(_) => false,
+        NodeKind::Opt(_) => false,
+        NodeKind::EntryOf(_) => false,
+    }
+}
+
+/// Whether the value of the node is made once, or is there already.
+#[tactic(auto, unfolding(dg_decl::specs::Sizes::is_shared))]
+pub(crate) fn is_shared(d: &Doc, node: &Node) -> bool
+    ensures exact { result ≡ sizes.is_shared d.now node.now }
+{
+    is_scoped(d, node) || is_producer(d, node) || is_bound_instance(node)
+}
+
+/// The size of the body of an item, or the bound if it is past that.
+fn size_of_item(item: &Item, most: u64) -> u64
+    requires some { 1 ≤ most }
+    requires most { most ≤ 2 ^ 32 }
+    ensures exact { result ≡ min (sizes.size_of_item item.now) most }
+{
+    match item {
+        Item::Class { params, .. } => plus(1, (params.len() as u64).min(most), most),
+        Item::Provides { body, .. } => size_of_expr(body, most),
+        Item::Produces { body, .. } => size_of_tree(body, most),
+        _ => 1,
+    }
+}
+
+/// The size of the body of a node, or the bound if it is past that.
+#[tactic(auto, unfolding(dg_decl::specs::Sizes::size))]
+pub(crate) fn size_of_node(d: &Doc, node: &Node, most: u64) -> u64
+    requires some { 1 ≤ most }
+    requires most { most ≤ 2 ^ 32 }
+    ensures exact { result ≡ min (sizes.size d.now node.now) most }
+{
+    match item_of_node(d, node) {
+        Some(item) => size_of_item(item, most),
+        None => 1,
     }
 }
