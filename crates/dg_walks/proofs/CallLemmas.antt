@@ -9,7 +9,7 @@ use Rattle.dg_num.specs.Counts.{IsReversed}
 use Rattle.dg_num.specs.Graph.{node_count, successors, HasEdge, IsSound}
 use Rattle.dg_num.specs.Walks.{Walk, Leads, IsReached, IsOnCycle, IsTrueAt, TellsExactly}
 use Rattle.dg_num.proofs.Rows.{node_from_edge, HasEdge-reversed, HasEdge-back}
-use Rattle.dg_num.proofs.WalkLaws.{Walk-reversed, Leads-trans, Leads-edge, IsOnCycle-from_leads}
+use Rattle.dg_num.proofs.WalkLaws.{Walk-push, Walk-reversed, Leads-trans, Leads-edge, IsOnCycle-from_leads}
 use Rattle.dg_decl.specs.declared.document.Doc.{Doc}
 use Rattle.dg_decl.specs.declared.graph.Node.{Node}
 use Rattle.dg_decl.specs.declared.graph.Edge.{Edge}
@@ -118,12 +118,26 @@ kept graph called i marks so old = record {
               old k t (subst P same edge) (subst Q same to) back)
         ]
 
-pub without_calls : (graph called : Graph) (i : ℕ) (marks : List Bool) (from : List ℕ)
-    → TellsCalled graph called i marks → from ≡ successors called i → from ≡ []
-    → TellsCalled graph called (i + 1) marks
-without_calls graph called i marks from so row none =
-    kept graph called i marks so (λ k t edge to back. let P : List ℕ → Type 0 = λ xs. Contains xs t
-    in absurd (none_in t (subst P (sym row ∙ none) edge)))
+-- an edge that closes a walk ends at a node on a cycle, too
+cycle_after : (graph : Graph) (a b : ℕ) → HasEdge graph a b → Leads (successors graph) b a
+    → IsOnCycle (successors graph) b
+cycle_after graph a b edge leads =
+    (suc leads.0, omega arith, Walk-push graph leads.0 b a b leads.1 edge)
+
+pub calls_below : (graph turned called : Graph) (on_cycle : List Bool) (i : ℕ) (from : List ℕ)
+    → AreParts graph turned called on_cycle → from ≡ successors called i
+    → (k d : ℕ) → k < length from → get_or from k d < node_count graph
+calls_below graph turned called on_cycle i from parts row k d lt =
+    let P : List ℕ → Type 0 = λ xs. Contains xs (get_or from k d) in
+    let edge = subst P row (Contains-get_or from k d lt) in
+    parts.sound.in_range i (get_or from k d) (parts.within i (get_or from k d) edge)
+
+pub row_below : (graph turned called : Graph) (on_cycle : List Bool) (i : ℕ) (from : List ℕ)
+    → AreParts graph turned called on_cycle → from ≡ successors called i
+    → (k d : ℕ) → k < length from → get_or from k d < length on_cycle
+row_below graph turned called on_cycle i from parts row k d lt =
+    omega (arith, calls_below graph turned called on_cycle i from parts row k d lt,
+    parts.cycles.for_each_node)
 
 -- a called edge of a node on such a walk makes it a cycle
 closes : (graph turned called : Graph) (on_cycle : List Bool)
@@ -139,6 +153,22 @@ pub without_cycle : (graph turned called : Graph) (on_cycle marks : List Bool) (
 without_cycle graph turned called on_cycle marks i parts lt so off =
     kept graph called i marks so (λ k t edge to back. absurd (false≢true (sym off
     ∙ (parts.cycles.exact i lt).1 (closes graph turned called on_cycle parts i k t edge to back))))
+
+-- and of the node to which it leads
+pub without_called_cycle : (graph turned called : Graph) (on_cycle marks : List Bool) (i : ℕ)
+    (from : List ℕ) → AreParts graph turned called on_cycle → from ≡ successors called i
+    → TellsCalled graph called i marks
+    → ((node : ℕ) × Contains from node × IsTrueAt on_cycle node → ⊥)
+    → TellsCalled graph called (i + 1) marks
+without_called_cycle graph turned called on_cycle marks i from parts row so none =
+    kept graph called i marks so (λ k t edge to back.
+    let P : List ℕ → Type 0 = λ xs. Contains xs t in
+    let leads = parts.within i t edge in
+    let lt : t < node_count graph = parts.sound.in_range i t leads in
+    let closed = Leads-trans graph t k i back to in
+    let around : IsOnCycle (successors graph) t =
+    cycle_after graph i t leads closed in
+    absurd (none (t, subst P (sym row) edge, (parts.cycles.exact t lt).1 around)))
 
 pub when_marked : (graph turned called : Graph) (on_cycle marks : List Bool) (i : ℕ)
     → AreParts graph turned called on_cycle → i < node_count graph
@@ -182,14 +212,6 @@ called_more graph called i from before marks so row between = record {
               let R : List ℕ → Type 0 = λ xs. Contains xs t in
               inr ((t, subst R (sym row) (subst P same edge), back), subst Q same to))
         ]
-
-pub calls_below : (graph turned called : Graph) (on_cycle : List Bool) (i : ℕ) (from : List ℕ)
-    → AreParts graph turned called on_cycle → from ≡ successors called i
-    → (k d : ℕ) → k < length from → get_or from k d < node_count graph
-calls_below graph turned called on_cycle i from parts row k d lt =
-    let P : List ℕ → Type 0 = λ xs. Contains xs (get_or from k d) in
-    let edge = subst P row (Contains-get_or from k d lt) in
-    parts.sound.in_range i (get_or from k d) (parts.within i (get_or from k d) edge)
 
 pub called_none : (graph called : Graph) (n : ℕ) (marks : List Bool) → n ≡ node_count graph
     → marks ≡ replicate n false → TellsCalled graph called 0 marks

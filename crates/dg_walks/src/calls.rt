@@ -1,9 +1,9 @@
 //! Which nodes lie on a walk that returns and has a called edge.
 
-ghost use Rattle.std.specs.Prelude.{◌≡◌, ◌<◌, ◌+◌, ◌||◌, ◌&&◌, All, IfOk, OnOk, length, vec_len};
+ghost use Rattle.std.specs.Prelude.{◌≡◌, ◌<◌, ◌+◌, ◌↔◌, ◌||◌, ◌&&◌, ℕ, All, Contains, IsTrue, IfOk, OnOk, length, vec_len};
 ghost use Rattle.dg_num.specs.Counts.{IsReversed};
 ghost use Rattle.dg_num.specs.Graph.{node_count, successors, IsSound};
-ghost use Rattle.dg_num.specs.Walks.{IsReached, TellsExactly};
+ghost use Rattle.dg_num.specs.Walks.{IsTrueAt, IsReached, TellsExactly};
 ghost use Rattle.dg_walks.specs.Calls as spec;
 
 use crate::producing::marks_reached;
@@ -65,9 +65,23 @@ fn mark_between(
     Ok(())
 }
 
+/// Whether a node of the row lies on a cycle.
+fn is_any_on_cycle(on_cycle: &[bool], row: &[u32]) -> bool
+    requires { All (λ node. node < length on_cycle.now) row.now }
+    ensures exact { IsTrue result ↔ ((node : ℕ) × Contains row.now node
+        × IsTrueAt on_cycle.now node) }
+{
+    for &node in row {
+        if on_cycle[node as usize] {
+            return true;
+        }
+    }
+    false
+}
+
 /// Marks the nodes on walks that return and have a called edge of this node. No search is needed
-/// where the node calls nothing, where it lies on no cycle, or where it is marked: then all nodes
-/// on such walks are.
+/// where it and what it calls don't both lie on cycles, or where it is marked: then all nodes on
+/// such walks are.
 fn mark_calls_of(
     alloc: Global,
     graph: &Graph,
@@ -84,10 +98,10 @@ fn mark_calls_of(
         (spec.TellsCalled graph.now called.now (node + 1) marks.new.items) }
 {
     let from = row(called, node);
-    if from.is_empty() {
+    if !on_cycle[node as usize] {
         return Ok(());
     }
-    if !on_cycle[node as usize] {
+    if !is_any_on_cycle(on_cycle, from) {
         return Ok(());
     }
     if marks[node as usize] {

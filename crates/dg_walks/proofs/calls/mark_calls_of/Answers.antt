@@ -1,6 +1,8 @@
 use Rattle.std.proofs.Common.{◌≡◌, ◌<◌, false, length, get_or, sym, ◌∙◌, arith}
+use Rattle.std.proofs.lemmas.Bool.{false≢true}
 use Rattle.std.proofs.lemmas.List.{get_or_read}
-use Rattle.dg_walks.proofs.CallLemmas.{without_cycle, when_marked, called_more, calls_below}
+use Rattle.dg_walks.proofs.CallLemmas.{without_cycle, without_called_cycle, when_marked}
+use Rattle.dg_walks.proofs.CallLemmas.{called_more, calls_below, row_below}
 use Rattle.dg_walks.proofs.calls.mark_calls_of.Goals as goal
 
 pub returns-then-not-on_cycle-node : goal.returns-then-not-on_cycle-node
@@ -9,6 +11,21 @@ returns-then-not-on_cycle-node c =
       exact = without_cycle c.args.graph.now c.args.turned.now c.args.called.now
           c.args.on_cycle.now c.args.marks.now.items c.args.node c.requires.parts c.requires.node
           c.requires.marks c.if-not-on_cycle-node.true;
+    }
+
+pub is_any_on_cycle-requires : goal.is_any_on_cycle-requires
+is_any_on_cycle-requires c =
+    row_below c.args.graph.now c.args.turned.now c.args.called.now c.args.on_cycle.now
+    c.args.node c.row-from.result.now c.requires.parts c.row-from.ensures.exact
+
+pub returns-then-not-is_any_on_cycle : goal.returns-then-not-is_any_on_cycle
+returns-then-not-is_any_on_cycle c =
+    record {
+      exact = without_called_cycle c.args.graph.now c.args.turned.now c.args.called.now
+          c.args.on_cycle.now c.args.marks.now.items c.args.node c.row-from.result.now
+          c.requires.parts c.row-from.ensures.exact c.requires.marks
+          (λ some. false≢true (sym c.if-not-is_any_on_cycle.true
+          ∙ c.is_any_on_cycle.ensures.exact.1 some));
     }
 
 pub returns-then-index : goal.returns-then-index
