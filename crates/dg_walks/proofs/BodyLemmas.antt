@@ -1,5 +1,5 @@
 -- What the size of each form of an expression, a condition and a tree is.
-use Rattle.std.proofs.Common.{◌≡◌, ℕ, suc, ◌+◌, List, map, sum_by, ap, ◌∙◌}
+use Rattle.std.proofs.Common.{◌≡◌, ℕ, suc, ◌+◌, List, sum_by, ap, ◌∙◌}
 use Rattle.std.specs.Prelude.{ℤ}
 use Rattle.std.proofs.lemmas.List.Sums.{sum-map}
 use Rattle.dg_decl.specs.declared.expression.CallName.{CallName}
@@ -10,7 +10,8 @@ use Rattle.dg_decl.specs.declared.expression.Cond.{Cond}
 use Rattle.dg_decl.specs.declared.expression.Cond.TheVariants as cond
 use Rattle.dg_decl.specs.declared.expression.Tree.{Tree}
 use Rattle.dg_decl.specs.declared.expression.Tree.TheVariants as tree
-use Rattle.dg_decl.specs.Bodies.{cond_size_at, expr_size_at, size_of_expr, size_of_cond, tree_size_at, size_of_tree}
+use Rattle.dg_decl.specs.Bodies.{cond_size_at, expr_size_at, size_of_expr, size_of_cond}
+use Rattle.dg_decl.specs.Bodies.{tree_size_at, size_of_tree}
 use Rattle.dg_decl.proofs.FoldEquations as fold
 
 pub size-Text : (t : List ℕ) → size_of_expr (expr.Text t) ≡ 1

@@ -1,27 +1,34 @@
 -- Nodes on walks that return and have a called edge, by their numbers.
-use Rattle.std.proofs.Common.{◌≡◌, ◌≢◌, ◌↔◌, ◌⊎◌, inl, inr, ℕ, zero, suc, ◌+◌, ◌<◌, ◌≤◌, Bool, true, false, ◌||◌, ◌&&◌, List, [], ◌∷◌, length, get_or, set, map, filter, replicate, slice_get, Contains, IsTrue, Some, refl, sym, ap, subst, ◌∙◌, arith}
+use Rattle.std.proofs.Common.{◌≡◌, ◌↔◌, ◌⊎◌, inl, inr, ℕ, suc, ◌+◌, ◌<◌, Bool, true, false, ◌||◌}
+use Rattle.std.proofs.Common.{◌&&◌, List, [], ◌∷◌, length, get_or, map, filter, replicate}
+use Rattle.std.proofs.Common.{slice_get, Contains, Some, sym, ap, subst, ◌∙◌, arith}
 use Rattle.std.proofs.lemmas.Bool.{cases_lt, false≢true, or_cases, or_left, or_right}
-use Rattle.std.proofs.lemmas.List.{length-set, get_or-set_same, get_or-set_other, get_or-replicate, length-replicate}
+use Rattle.std.proofs.lemmas.List.{get_or-replicate, length-replicate}
 use Rattle.std.proofs.lemmas.List.Elements.{Contains-get_or}
 use Rattle.std.proofs.lemmas.Option.{slice_get_within}
 use Rattle.dg_num.specs.declared.graph.Graph.{Graph}
 use Rattle.dg_num.specs.Counts.{IsReversed}
 use Rattle.dg_num.specs.Graph.{node_count, successors, HasEdge, IsSound}
-use Rattle.dg_num.specs.Walks.{Walk, Leads, IsReached, IsOnCycle, IsTrueAt, TellsExactly}
+use Rattle.dg_num.specs.Walks.{Leads, IsReached, IsOnCycle, IsTrueAt, TellsExactly}
 use Rattle.dg_num.proofs.Rows.{node_from_edge, HasEdge-reversed, HasEdge-back}
-use Rattle.dg_num.proofs.WalkLaws.{Walk-push, Walk-reversed, Leads-trans, Leads-edge, IsOnCycle-from_leads}
+use Rattle.dg_num.proofs.WalkLaws.{Walk-push, Walk-reversed, Leads-trans, Leads-edge}
+use Rattle.dg_num.proofs.WalkLaws.{IsOnCycle-from_leads}
 use Rattle.dg_decl.specs.declared.document.Doc.{Doc}
 use Rattle.dg_decl.specs.declared.graph.Node.{Node}
 use Rattle.dg_decl.specs.declared.graph.Edge.{Edge}
-use Rattle.dg_decl.specs.Graph.{nodes, EdgeTo, edges, edge_lists, is_direct, is_called, needed_targets, called_targets, OnCall, is_on_call}
-use Rattle.dg_decl.proofs.MemberLemmas.{none_in, in_got, in_front, the_one, in_map, out_map, in_filter, out_filter}
+use Rattle.dg_decl.specs.Graph.{nodes, EdgeTo, edges, edge_lists, is_direct, is_called}
+use Rattle.dg_decl.specs.Graph.{needed_targets, called_targets, OnCall, is_on_call}
+use Rattle.dg_decl.proofs.MemberLemmas.{in_got, in_front, the_one, in_map, out_map, in_filter}
+use Rattle.dg_decl.proofs.MemberLemmas.{out_filter}
 use Rattle.dg_decl.proofs.NodesOnce.{once_nodes}
 use Rattle.dg_decl.proofs.NodeEquality.{first_so, second_so, both_so}
 use Rattle.dg_decl.proofs.GraphLemmas.{cycles_by_short_walks}
 use Rattle.dg_walks.specs.declared.rows.Follow.TheVariants as follow
 use Rattle.dg_walks.specs.Rows.{row_of, rows_of, IsGraphOf}
-use Rattle.dg_walks.specs.Calls.{IsCalledBelow, TellsCalled, AreParts, Joined, IsReachedFrom, MarksBetween}
-use Rattle.dg_walks.proofs.NumberLemmas.{node_at, one_number, edge_down, edge_up, walk_up, leads_down, leads_up, started, rooted, told}
+use Rattle.dg_walks.specs.Calls.{IsCalledBelow, TellsCalled, AreParts, Joined, IsReachedFrom}
+use Rattle.dg_walks.specs.Calls.{MarksBetween}
+use Rattle.dg_walks.proofs.NumberLemmas.{node_at, one_number, edge_down, edge_up, walk_up}
+use Rattle.dg_walks.proofs.NumberLemmas.{leads_down, leads_up, started, rooted, told}
 use Rattle.dg_walks.proofs.RowLemmas.{called_agree, is_graph}
 
 -- ---- marks of two searches
@@ -31,9 +38,11 @@ pub back_is : (graph turned : Graph) → IsReversed graph turned → (to k : ℕ
     → IsReachedFrom turned to k ↔ Leads (successors graph) k to
 back_is graph turned rev to k = (
   λ r. (let P : ℕ → Type 0 = λ x. Leads (successors graph) k x in
-      let w : Leads (successors graph) k r.0 =
-      (r.2.0, Walk-reversed turned graph (λ a b e. HasEdge-back graph turned rev b a e) r.2.0 r.0
-      k r.2.1) in
+      let w : Leads (successors graph) k r.0 = (
+        r.2.0,
+        Walk-reversed turned graph (λ a b e. HasEdge-back graph turned rev b a e) r.2.0 r.0
+            k r.2.1,
+      ) in
       subst P (sym (the_one r.0 to r.1)) w),
   λ l. (
     to,
@@ -57,13 +66,13 @@ marks_between graph turned from to before ahead back marks rev len a b so = reco
       let both = back_is graph turned rev to k in (
         λ t. elim (or_cases (get_or before k false) (get_or ahead k false && get_or back k false)
             (sym is ∙ t)) [
-          | inl old ↦ inl old
-          | inr new ↦ inr (
-            (a.exact k lt).0 (first_so (get_or ahead k false) (get_or back k false) new),
-            both.0 ((b.exact k lt').0
-                (second_so (get_or ahead k false) (get_or back k false) new)),
-          )
-        ],
+              | inl old ↦ inl old
+              | inr new ↦ inr (
+                (a.exact k lt).0 (first_so (get_or ahead k false) (get_or back k false) new),
+                both.0 ((b.exact k lt').0
+                    (second_so (get_or ahead k false) (get_or back k false) new)),
+              )
+            ],
         λ c. is ∙ elim c [
           | inl old ↦ or_left (get_or before k false)
               (get_or ahead k false && get_or back k false) old
@@ -136,8 +145,11 @@ pub row_below : (graph turned called : Graph) (on_cycle : List Bool) (i : ℕ) (
     → AreParts graph turned called on_cycle → from ≡ successors called i
     → (k d : ℕ) → k < length from → get_or from k d < length on_cycle
 row_below graph turned called on_cycle i from parts row k d lt =
-    omega (arith, calls_below graph turned called on_cycle i from parts row k d lt,
-    parts.cycles.for_each_node)
+    omega (
+      arith,
+      calls_below graph turned called on_cycle i from parts row k d lt,
+      parts.cycles.for_each_node,
+    )
 
 -- a called edge of a node on such a walk makes it a cycle
 closes : (graph turned called : Graph) (on_cycle : List Bool)

@@ -1,8 +1,8 @@
 -- Closed walks over nodes are cycles of the graph by numbers.
-use Rattle.std.proofs.Common.{◌≡◌, ◌↔◌, ℕ, zero, suc, ◌<◌, ◌≤◌, ◌^◌, Bool, List, [], ◌∷◌, length, map, slice_get, Contains, IsTrue, Some, sym, ap, ◌∙◌, arith}
+use Rattle.std.proofs.Common.{◌≡◌, zero, suc, ◌<◌, ◌^◌, Bool, List, length, map, ap, arith}
 use Rattle.dg_num.specs.declared.graph.Graph.{Graph}
-use Rattle.dg_num.specs.Graph.{node_count, successors, IsSound}
-use Rattle.dg_num.specs.Walks.{Walk, IsOnCycle, TellsExactly}
+use Rattle.dg_num.specs.Graph.{successors, IsSound}
+use Rattle.dg_num.specs.Walks.{IsOnCycle, TellsExactly}
 use Rattle.dg_decl.specs.declared.document.Doc.{Doc}
 use Rattle.dg_decl.specs.declared.graph.Node.{Node}
 use Rattle.dg_decl.specs.declared.graph.Edge.{Edge}

@@ -1,16 +1,15 @@
 -- Ranks are depths, and no graph of a document that the stages accept has a cycle.
-use Rattle.std.proofs.Common.{◌≡◌, ℕ, ◌<◌, ◌||◌, List, [], length, get_or, map, slice_get, Contains, Some, sym, ap, ◌∙◌, arith}
+use Rattle.std.proofs.Common.{◌≡◌, ℕ, ◌<◌, ◌||◌, List, [], get_or, map, ◌∙◌, arith}
 use Rattle.std.proofs.lemmas.Option.{slice_get_within}
 use Rattle.dg_num.specs.declared.graph.Graph.{Graph}
 use Rattle.dg_num.specs.Graph.{node_count, successors}
-use Rattle.dg_num.specs.Walks.{IsOnCycle, IsAcyclic, RanksExactly}
+use Rattle.dg_num.specs.Walks.{IsAcyclic, RanksExactly}
 use Rattle.dg_num.proofs.Rows.{node_from_edge}
 use Rattle.dg_num.proofs.WalkLaws.{first_on_cycle, off_cycle_from_rank}
 use Rattle.dg_decl.specs.declared.document.Doc.{Doc}
 use Rattle.dg_decl.specs.declared.graph.Edge.{Edge}
 use Rattle.dg_decl.specs.Graph.{nodes, edge_lists, is_direct, is_called, needed_targets}
 use Rattle.dg_decl.specs.Sizes.{depth}
-use Rattle.dg_decl.specs.GraphLaws.{HasNoCycle}
 use Rattle.dg_decl.specs.Stages.Bindings.{bindings_stage}
 use Rattle.dg_decl.proofs.MemberLemmas.{in_got}
 use Rattle.dg_decl.proofs.AcceptedGraph.{stages_leave_no_cycle}

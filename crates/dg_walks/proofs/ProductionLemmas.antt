@@ -1,15 +1,19 @@
 -- Productions are what producers are reached from, against the edges over which they are passed on.
-use Rattle.std.proofs.Common.{◌≡◌, ◌↔◌, ◌⊎◌, inl, inr, ℕ, zero, suc, ◌+◌, ◌<◌, ◌≤◌, ◌^◌, Bool, true, false, cond, ◌||◌, not, List, [], ◌∷◌, ◌++◌, length, get_or, map, filter, filter_map, drop, position, slice_get, Contains, IsTrue, Option, Some, None, option_map, refl, sym, ap, subst, ◌∙◌, arith}
+use Rattle.std.proofs.Common.{◌≡◌, ◌↔◌, inl, inr, ℕ, suc, ◌+◌, ◌<◌, ◌≤◌, Bool, true, false, cond}
+use Rattle.std.proofs.Common.{not, List, [], ◌∷◌, ◌++◌, length, get_or, map, filter, filter_map}
+use Rattle.std.proofs.Common.{position, slice_get, Contains, Option, Some, None, option_map, refl}
+use Rattle.std.proofs.Common.{sym, ap, subst, ◌∙◌, arith}
 use Rattle.std.specs.List.{cons_option, enumerate_from}
 use Rattle.std.proofs.lemmas.Bool.{cases_lt, false≢true}
-use Rattle.std.proofs.lemmas.List.{length-map, map-append}
-use Rattle.std.proofs.lemmas.List.Elements.{Contains-push, Contains-push_cases, Contains-append_left, Contains-get_or, filter-append}
-use Rattle.std.proofs.lemmas.Option.{none-some, same_Some, slice_get-map, get_or_from_slice_get, slice_get_within}
+use Rattle.std.proofs.lemmas.List.{length-map}
+use Rattle.std.proofs.lemmas.List.Elements.{Contains-push, Contains-push_cases}
+use Rattle.std.proofs.lemmas.List.Elements.{Contains-append_left, Contains-get_or, filter-append}
+use Rattle.std.proofs.lemmas.Option.{none-some, slice_get-map, get_or_from_slice_get}
 use Rattle.dg_types.specs.declared.key.Mode.{Mode}
 use Rattle.dg_types.specs.declared.key.Mode.TheVariants as mode
 use Rattle.dg_num.specs.declared.graph.Graph.{Graph}
 use Rattle.dg_num.specs.Counts.{IsReversed}
-use Rattle.dg_num.specs.Graph.{node_count, successors, HasEdge}
+use Rattle.dg_num.specs.Graph.{node_count, successors}
 use Rattle.dg_num.specs.Walks.{Walk, IsReached, IsTrueAt, TellsExactly}
 use Rattle.dg_num.proofs.Marks.{marked_within}
 use Rattle.dg_num.proofs.Rows.{HasEdge-reversed, HasEdge-back}
@@ -21,14 +25,17 @@ use Rattle.dg_decl.specs.declared.graph.Node.{Node}
 use Rattle.dg_decl.specs.declared.graph.NodeKind.{NodeKind}
 use Rattle.dg_decl.specs.declared.graph.NodeKind.TheVariants as node
 use Rattle.dg_decl.specs.declared.graph.Edge.{Edge}
-use Rattle.dg_decl.specs.declared.graph.EdgeKind.{EdgeKind}
 use Rattle.dg_decl.specs.declared.graph.EdgeKind.TheVariants as edge
-use Rattle.dg_decl.specs.Graph.{node_of, Dependency, deps, target, targets, nodes, EdgeTo, edge_kind, edge_to, needed_edges, is_param, is_called_mode, called_at, called_edge, calls_of, edges, numbered_edges, edge_lists, inner_of, targets_by}
-use Rattle.dg_decl.specs.Sizes.{is_producer, is_provider_form, passed_on, IsProduction, is_production}
+use Rattle.dg_decl.specs.Graph.{node_of, Dependency, deps, target, targets, nodes, EdgeTo}
+use Rattle.dg_decl.specs.Graph.{edge_kind, edge_to, needed_edges, is_param, is_called_mode}
+use Rattle.dg_decl.specs.Graph.{called_at, called_edge, calls_of, edges, numbered_edges, edge_lists}
+use Rattle.dg_decl.specs.Graph.{inner_of, targets_by}
+use Rattle.dg_decl.specs.Sizes.{is_producer, is_provider_form, passed_on, IsProduction}
+use Rattle.dg_decl.specs.Sizes.{is_production}
 use Rattle.dg_decl.proofs.MemberLemmas.{in_got, in_front, the_one, out_option_map, out_and_then}
 use Rattle.dg_decl.proofs.GraphLemmas.{productions_by_short_walks}
 use Rattle.dg_walks.specs.declared.rows.Follow.TheVariants as follow
-use Rattle.dg_walks.specs.Rows.{follows, row_of, rows_of, IsGraphOf}
+use Rattle.dg_walks.specs.Rows.{row_of, rows_of, IsGraphOf}
 use Rattle.dg_walks.specs.Passed.{passes_on, passed_row, passed_rows, with_marked}
 use Rattle.dg_walks.proofs.NumberLemmas.{walk_down, walk_up, started, rooted, told}
 use Rattle.dg_walks.proofs.RowLemmas.{target_of, is_followed, row_leads, row_got, counted}

@@ -1,5 +1,7 @@
 -- The graph of the edges that are followed is a graph of the nodes to which they lead.
-use Rattle.std.proofs.Common.{◌≡◌, ℕ, ◌<◌, Bool, true, false, cond, ◌||◌, List, [], ◌∷◌, length, get_or, map, filter, filter_map, slice_get, Contains, Option, Some, None, option_map, refl, sym, ap, ◌∙◌, arith}
+use Rattle.std.proofs.Common.{◌≡◌, ℕ, Bool, true, false, cond, ◌||◌, List, [], ◌∷◌, length, get_or}
+use Rattle.std.proofs.Common.{map, filter, slice_get, Contains, Option, Some, None, option_map}
+use Rattle.std.proofs.Common.{refl, sym, ap, ◌∙◌}
 use Rattle.std.specs.List.{cons_option}
 use Rattle.std.proofs.lemmas.List.{length-map}
 use Rattle.std.proofs.lemmas.List.Elements.{filter_agree}
@@ -11,13 +13,14 @@ use Rattle.dg_decl.specs.declared.graph.Node.{Node}
 use Rattle.dg_decl.specs.declared.graph.Edge.{Edge}
 use Rattle.dg_decl.specs.declared.graph.EdgeKind.{EdgeKind}
 use Rattle.dg_decl.specs.declared.graph.EdgeKind.TheVariants as edge
-use Rattle.dg_decl.specs.Graph.{nodes, EdgeTo, edges, numbered_edges, edge_lists, is_direct, is_called, targets_by}
+use Rattle.dg_decl.specs.Graph.{nodes, EdgeTo, edges, numbered_edges, edge_lists, is_direct}
+use Rattle.dg_decl.specs.Graph.{is_called, targets_by}
 use Rattle.dg_decl.specs.GraphLaws.{Led, edge_led, numbered_led}
 use Rattle.dg_decl.proofs.MemberLemmas.{in_got}
 use Rattle.dg_decl.proofs.EdgeNumbers.{edges_are_numbered}
 use Rattle.dg_walks.specs.declared.rows.Follow.{Follow}
 use Rattle.dg_walks.specs.declared.rows.Follow.TheVariants as follow
-use Rattle.dg_walks.specs.Rows.{follows, followed, row_of, rows_of, IsGraphOf}
+use Rattle.dg_walks.specs.Rows.{follows, row_of, rows_of, IsGraphOf}
 
 -- ---- rows of one node
 

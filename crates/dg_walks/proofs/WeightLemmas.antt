@@ -1,12 +1,14 @@
 -- Weights of numbers are weights of nodes, also where own sizes are cut at the bound.
-use Rattle.std.proofs.Common.{◌≡◌, ℕ, zero, suc, ◌+◌, ◌<◌, ◌≤◌, Bool, true, false, cond, if◌then◌else◌, min, List, [], ◌∷◌, length, get_or, map, filter, slice_get, sum_by, Option, Some, option_map, refl, sym, ap, ◌∙◌, arith}
+use Rattle.std.proofs.Common.{◌≡◌, ℕ, zero, suc, ◌+◌, ◌<◌, ◌≤◌, Bool, true, false, cond}
+use Rattle.std.proofs.Common.{if◌then◌else◌, min, List, [], ◌∷◌, length, get_or, map, filter}
+use Rattle.std.proofs.Common.{slice_get, sum_by, Some, option_map, refl, sym, ap, ◌∙◌, arith}
 use Rattle.std.proofs.lemmas.List.{length-map}
 use Rattle.std.proofs.lemmas.List.Sums.{sum_by-cons}
 use Rattle.std.proofs.lemmas.Option.{slice_get-map, get_or_from_slice_get, slice_get_within}
 use Rattle.dg_num.specs.declared.graph.Graph.{Graph}
 use Rattle.dg_num.specs.Graph.{node_count, successors, IsSound}
 use Rattle.dg_num.specs.Walks.{IsAcyclic}
-use Rattle.dg_num.specs.Weights.{added, weight_within, weight_of, WeightsExactly}
+use Rattle.dg_num.specs.Weights.{added, weight_within, WeightsExactly}
 use Rattle.dg_num.proofs.Weighings.{one_weight}
 use Rattle.dg_decl.specs.declared.document.Doc.{Doc}
 use Rattle.dg_decl.specs.declared.graph.Node.{Node}

@@ -1,5 +1,6 @@
 -- Which numbers lie on a walk that returns and has a called edge.
-use Rattle.std.specs.Prelude.{◌≡◌, ◌<◌, ◌≤◌, ◌↔◌, ◌⊎◌, ◌∷◌, [], ◌||◌, ◌&&◌, ℕ, Bool, false, List, length, slice_index_or}
+use Rattle.std.specs.Prelude.{◌≡◌, ◌<◌, ◌≤◌, ◌↔◌, ◌⊎◌, ◌∷◌, [], ◌||◌, ◌&&◌, ℕ, Bool, false, List}
+use Rattle.std.specs.Prelude.{length, slice_index_or}
 use Rattle.dg_num.specs.declared.graph.Graph.{Graph}
 use Rattle.dg_num.specs.Counts.{IsReversed}
 use Rattle.dg_num.specs.Graph.{node_count, successors, HasEdge, IsSound}

@@ -1,5 +1,6 @@
 -- Graphs over the numbers of nodes, by the edges that are followed.
-use Rattle.std.specs.Prelude.{◌≡◌, ℕ, Bool, true, false, if◌then◌else◌, List, length, map, filter_map, slice_get, Option, Some, None}
+use Rattle.std.specs.Prelude.{◌≡◌, ℕ, Bool, true, false, if◌then◌else◌, List, length, map}
+use Rattle.std.specs.Prelude.{filter_map, slice_get, Option, Some, None}
 use Rattle.dg_num.specs.declared.graph.Graph.{Graph}
 use Rattle.dg_num.specs.Graph.{node_count, successors}
 use Rattle.dg_decl.specs.declared.graph.Edge.{Edge}

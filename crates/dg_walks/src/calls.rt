@@ -1,6 +1,7 @@
 //! Which nodes lie on a walk that returns and has a called edge.
 
-ghost use Rattle.std.specs.Prelude.{◌≡◌, ◌<◌, ◌+◌, ◌↔◌, ◌||◌, ◌&&◌, ℕ, All, Contains, IsTrue, IfOk, OnOk, length, vec_len};
+ghost use Rattle.std.specs.Prelude.{◌≡◌, ◌<◌, ◌+◌, ◌↔◌, ◌||◌, ◌&&◌, ℕ, All, Contains, IsTrue, IfOk};
+ghost use Rattle.std.specs.Prelude.{OnOk, length, vec_len};
 ghost use Rattle.dg_num.specs.Counts.{IsReversed};
 ghost use Rattle.dg_num.specs.Graph.{node_count, successors, IsSound};
 ghost use Rattle.dg_num.specs.Walks.{IsTrueAt, IsReached, TellsExactly};

@@ -1,3 +1,5 @@
+//! Which nodes lie on closed walks.
+
 ghost use Rattle.std.specs.Prelude.{◌≡◌, ◌<◌, ◌^◌, IfOk, length, map};
 ghost use Rattle.dg_num.specs.Graph.{successors, IsSound};
 ghost use Rattle.dg_num.specs.Walks.{IsOnCycle, TellsExactly};

@@ -1,3 +1,5 @@
+//! Which nodes are productions.
+
 ghost use Rattle.std.specs.Prelude.{◌≡◌, ◌<◌, ◌^◌, ◌↔◌, ℕ, Contains, IfOk, OnOk, length, map, All};
 ghost use Rattle.dg_num.specs.Graph.{node_count, successors, IsSound};
 ghost use Rattle.dg_num.specs.Walks.{IsReached, IsTrueAt, TellsExactly};

@@ -11,7 +11,7 @@ use std::alloc::Global;
 
 /// Which edges are followed.
 #[derive(Clone, Copy)]
-pub enum Follow {
+pub(crate) enum Follow {
     /// Direct edges.
     Direct,
     /// Called edges.

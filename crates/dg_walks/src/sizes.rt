@@ -1,3 +1,5 @@
+//! How deep and how heavy nodes are.
+
 ghost use Rattle.std.specs.Prelude.{◌≡◌, ◌<◌, ◌≤◌, ◌^◌, ◌+◌, [], IfOk, length, map, min};
 ghost use Rattle.dg_num.specs.Graph.{node_count, successors, IsSound};
 ghost use Rattle.dg_num.specs.Walks.{IsAcyclic, RanksExactly};

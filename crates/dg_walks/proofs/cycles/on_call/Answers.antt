@@ -1,4 +1,4 @@
-use Rattle.std.proofs.Common.{map, ap, sym, ◌∙◌}
+use Rattle.std.proofs.Common.{map, ap, ◌∙◌}
 use Rattle.dg_decl.specs.Graph as graph
 use Rattle.dg_walks.specs.declared.rows.Follow.TheVariants as follow
 use Rattle.dg_walks.specs.Rows.{row_of, IsGraphOf}

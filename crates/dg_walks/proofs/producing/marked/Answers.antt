@@ -1,4 +1,4 @@
-use Rattle.std.proofs.Common.{◌≡◌, ◌+◌, List, ℕ, get_or, refl, sym, subst, arith}
+use Rattle.std.proofs.Common.{◌+◌, get_or, refl, sym, subst, arith}
 use Rattle.std.specs.Prelude.{false}
 use Rattle.dg_walks.proofs.ProductionLemmas.{Marked, marked_more, all_marked}
 use Rattle.dg_walks.proofs.producing.marked.Goals as goal

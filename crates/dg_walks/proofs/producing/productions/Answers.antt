@@ -16,7 +16,8 @@ passed_graph-requires c = record {
 
 pub reversed-requires : goal.reversed-requires
 reversed-requires c =
-    let g : IsGraphOf (graph.nodes c.args.d.now) (sizes.passed_on c.args.d.now) c.in_ok-graph.graph =
+    let g : IsGraphOf (graph.nodes c.args.d.now) (sizes.passed_on c.args.d.now)
+    c.in_ok-graph.graph =
     lemmas.passed_graph c.args.d.now c.in_ok-graph.graph c.as_slice.result.now
     c.as_slice-2.result.now (c.as_slice.ensures ∙ c.requires.nodes)
     (c.as_slice-2.ensures ∙ c.requires.edges) c.in_ok-graph.ensures.exact in
@@ -25,7 +26,8 @@ reversed-requires c =
 
 pub marks_reached-requires-clause-graph : goal.marks_reached-requires-clause-graph
 marks_reached-requires-clause-graph c =
-    let g : IsGraphOf (graph.nodes c.args.d.now) (sizes.passed_on c.args.d.now) c.in_ok-graph.graph =
+    let g : IsGraphOf (graph.nodes c.args.d.now) (sizes.passed_on c.args.d.now)
+    c.in_ok-graph.graph =
     lemmas.passed_graph c.args.d.now c.in_ok-graph.graph c.as_slice.result.now
     c.as_slice-2.result.now (c.as_slice.ensures ∙ c.requires.nodes)
     (c.as_slice-2.ensures ∙ c.requires.edges) c.in_ok-graph.ensures.exact in
@@ -36,7 +38,8 @@ marks_reached-requires-clause-graph c =
 
 pub marks_reached-requires-clause-from : goal.marks_reached-requires-clause-from
 marks_reached-requires-clause-from c =
-    let g : IsGraphOf (graph.nodes c.args.d.now) (sizes.passed_on c.args.d.now) c.in_ok-graph.graph =
+    let g : IsGraphOf (graph.nodes c.args.d.now) (sizes.passed_on c.args.d.now)
+    c.in_ok-graph.graph =
     lemmas.passed_graph c.args.d.now c.in_ok-graph.graph c.as_slice.result.now
     c.as_slice-2.result.now (c.as_slice.ensures ∙ c.requires.nodes)
     (c.as_slice-2.ensures ∙ c.requires.edges) c.in_ok-graph.ensures.exact in
@@ -51,7 +54,8 @@ marks_reached-requires-clause-from c =
 
 pub returns : goal.returns
 returns c =
-    let g : IsGraphOf (graph.nodes c.args.d.now) (sizes.passed_on c.args.d.now) c.in_ok-graph.graph =
+    let g : IsGraphOf (graph.nodes c.args.d.now) (sizes.passed_on c.args.d.now)
+    c.in_ok-graph.graph =
     lemmas.passed_graph c.args.d.now c.in_ok-graph.graph c.as_slice.result.now
     c.as_slice-2.result.now (c.as_slice.ensures ∙ c.requires.nodes)
     (c.as_slice-2.ensures ∙ c.requires.edges) c.in_ok-graph.ensures.exact in
