@@ -63,10 +63,11 @@ needed_more ns ds i d old mid new edge lt is before one e =
     λ (n : ℕ). option_to_list (edge_of ns (edge_kind d.mode) (suc n) d) in
     let whole : take (i + 1) ds ≡ take i ds ++ d ∷ [] =
     take_more ds i d lt ∙ ap (λ (x : Dependency). take i ds ++ x ∷ []) (sym is) in
+    let place : i ≡ 0 + length (take i ds) = omega (arith, length_take ds i lt) in
     e ∙ ap (λ (es : List Edge). es ++ option_to_list edge) before
     ∙ append_assoc old (needed_from ns 0 (take i ds)) (option_to_list edge)
     ∙ ap (λ (o : Option Edge). old ++ (needed_from ns 0 (take i ds) ++ option_to_list o)) one
-    ∙ ap (λ (n : ℕ). old ++ (needed_from ns 0 (take i ds) ++ more n)) (sym (length_take ds i lt))
+    ∙ ap (λ (n : ℕ). old ++ (needed_from ns 0 (take i ds) ++ more n)) place
     ∙ ap (λ (es : List Edge). old ++ es) (sym (needed_push ns 0 (take i ds) d))
     ∙ ap (λ (xs : List Dependency). old ++ needed_from ns 0 xs) (sym whole)
 

@@ -25,10 +25,12 @@ tests_agree m n =
     (λ h. (node_decides m n).1 ((same_decides m n).0 h))
     (λ h. (same_decides m n).1 ((node_decides m n).0 h))
 
-pub number_is : (ns : List Node) (n : Node) (o : Option ℕ)
-    → o ≡ position (of_nodes.ghosts.eq n) ns → o ≡ number_of ns n
+pub number_is : (ns keys : List Node) (n : Node) (o : Option ℕ) → keys ≡ ns
+    → o ≡ position (of_nodes.ghosts.eq n) keys → o ≡ number_of ns n
 unfolding same
-number_is ns n o e = e ∙ λ i. position (λ (m : Node). tests_agree n m i) ns
+number_is ns keys n o here e =
+    e ∙ (λ i. position (λ (m : Node). tests_agree n m i) keys)
+    ∙ ap (λ (xs : List Node). number_of xs n) here
 
 -- ---- a set of nodes that all differ
 
