@@ -1,6 +1,5 @@
 -- The edges of calls, one after another.
 use Rattle.std.proofs.Common.{◌≡◌, ◌++◌, ◌∷◌, [], ◌+◌, ◌<◌, ℕ, List, map, take, get_or, length, append_assoc, ap, sym, ◌∙◌}
-use Rattle.std.specs.List.{flat_map}
 use Rattle.std.proofs.lemmas.List.{append-nil, take_more}
 use Rattle.std.proofs.lemmas.List.Elements.{filter_map-append}
 use Rattle.dg_lex.specs.Bytes.{Bytes}
@@ -25,6 +24,8 @@ pub two_more : (ns : List Node) (ds : List Dependency) (old : List Edge) (xs ys 
 two_more ns ds old xs ys =
     append_assoc old (called_by ns ds xs) (called_by ns ds ys)
     ∙ ap (λ (es : List Edge). old ++ es) (sym (called_two ns ds xs ys))
+
+pub ruleset steps = (adds_none, two_more)
 
 all_push : {A : Type 0} (f : A → List Bytes) (xs : List A) (x : A)
     → all_of (map f (xs ++ x ∷ [])) ≡ all_of (map f xs) ++ f x

@@ -1,5 +1,5 @@
 -- The edges of a node by numbers: those of its dependencies, and those of its calls.
-use Rattle.std.proofs.Common.{◌≡◌, ℕ, zero, suc, ◌+◌, ◌<◌, ◌≤◌, List, [], ◌∷◌, ◌++◌, length, get_or, map, take, filter_map, flat_map, Contains, Option, Some, None, option_and_then, option_to_list, append_assoc, refl, sym, ap, subst, ◌∙◌, arith}
+use Rattle.std.proofs.Common.{◌≡◌, ℕ, zero, suc, ◌+◌, ◌<◌, ◌≤◌, List, [], ◌∷◌, ◌++◌, length, get_or, map, take, filter_map, Contains, Option, Some, None, option_and_then, option_to_list, append_assoc, refl, sym, ap, subst, ◌∙◌, arith}
 use Rattle.std.specs.List.{cons_option, range_with_len, enumerate_from, IsDistinct}
 use Rattle.std.proofs.lemmas.List.{append-nil, take_more, map-append}
 use Rattle.std.proofs.lemmas.List.Elements.{filter_map-append}
@@ -7,11 +7,11 @@ use Rattle.dg_decl.specs.declared.document.Doc.{Doc}
 use Rattle.dg_decl.specs.declared.graph.Node.{Node}
 use Rattle.dg_decl.specs.declared.graph.Edge.{Edge}
 use Rattle.dg_decl.specs.Components.{class_count}
-use Rattle.dg_decl.specs.Graph.{same_node, Dependency, node_of, kinds_of, candidates, nodes, deps, EdgeTo, edge_kind, edge_to, needed_edges, called_edge, calls_of, edges, numbered_edges, edge_lists}
+use Rattle.dg_decl.specs.Graph.{same_node, Dependency, node_of, kinds_of, candidates, nodes, deps, edge_kind, edge_to, needed_edges, called_edge, calls_of, edges, numbered_edges, edge_lists}
 use Rattle.dg_decl.proofs.GraphLemmas.{node_is_candidate}
 use Rattle.dg_decl.proofs.MemberLemmas.{out_flat_map, out_map, out_range}
 use Rattle.dg_decl.proofs.NodesOnce.{nodes_are_the_reachable_ones}
-use Rattle.dg_edges.specs.Numbered.{numbered, edge_of, needed_from, called, called_by}
+use Rattle.dg_edges.specs.Numbered.{numbered, edge_of, needed_from, called_by}
 
 -- ---- one dependency more
 

@@ -1,13 +1,12 @@
 -- Nodes that all differ keep their places in a set, and have the same numbers there.
-use Rattle.std.proofs.Common.{◌≡◌, ℕ, zero, suc, ◌+◌, ◌<◌, Bool, true, false, List, [], ◌∷◌, ◌++◌, length, get_or, take, position, Option, if◌then◌else◌, option_map, not, refl, sym, ap, ◌∙◌, arith}
+use Rattle.std.proofs.Common.{◌≡◌, ℕ, zero, suc, ◌+◌, ◌<◌, Bool, true, false, List, [], ◌∷◌, ◌++◌, length, get_or, take, position, Option, if◌then◌else◌, refl, sym, ap, ◌∙◌, arith}
 use Rattle.std.specs.List.{IsDistinct, list_any, AllByRecursion}
-use Rattle.std.proofs.lemmas.Bool.{true≢false, false≢true}
+use Rattle.std.proofs.lemmas.Bool.{false≢true}
 use Rattle.std.proofs.lemmas.List.{take_more}
 use Rattle.indexmap.specs.IndexSet.{insert_key}
 use Rattle.dg_decl.specs.contracts.graph.NodePartialEq.TheImpl as of_nodes
 use Rattle.dg_decl.specs.declared.graph.Node.{Node}
 use Rattle.dg_decl.specs.Graph.{same_node, number_of}
-use Rattle.dg_decl.proofs.NodeWalks.{Decides, any_is, is_any}
 use Rattle.dg_decl.proofs.NodeEquality.{node_decides}
 use Rattle.dg_edges.specs.Numbered.{same}
 use Rattle.dg_edges.proofs.DerivedEquality.{same_decides}

@@ -35,7 +35,7 @@ fn by_name(
 }
 
 /// Adds the edges of the calls in an expression.
-#[tactic(auto, using(crate::proofs::CallFolds::exprs, crate::proofs::CallLemmas::two_more, crate::proofs::CallLemmas::adds_none))]
+#[tactic(auto, using(crate::proofs::CallFolds::exprs, crate::proofs::CallLemmas::steps))]
 #[cycle(calls)]
 fn in_expr(
     alloc: Global,
@@ -67,7 +67,7 @@ fn in_expr(
 }
 
 /// Adds the edges of the calls in some expressions.
-#[tactic(auto, using(crate::proofs::CallLemmas::two_more, crate::proofs::CallLemmas::adds_none))]
+#[tactic(auto, using(crate::proofs::CallLemmas::steps))]
 #[cycle(calls)]
 fn joined(
     alloc: Global,
@@ -86,7 +86,7 @@ fn joined(
 }
 
 /// Adds the edges of the calls in a condition.
-#[tactic(auto, using(crate::proofs::CallFolds::conds, crate::proofs::CallLemmas::two_more, crate::proofs::CallLemmas::adds_none))]
+#[tactic(auto, using(crate::proofs::CallFolds::conds, crate::proofs::CallLemmas::steps))]
 #[cycle(calls)]
 fn in_cond(
     alloc: Global,
@@ -108,7 +108,7 @@ fn in_cond(
 }
 
 /// Adds the edges of the calls in a decision tree.
-#[tactic(auto, using(crate::proofs::CallFolds::trees, crate::proofs::CallLemmas::two_more, crate::proofs::CallLemmas::adds_none))]
+#[tactic(auto, using(crate::proofs::CallFolds::trees, crate::proofs::CallLemmas::steps))]
 fn in_tree(
     alloc: Global,
     numbers: &Numbers,

@@ -1,4 +1,3 @@
-use Rattle.std.proofs.Common.{◌≡◌, ◌∙◌}
 use Rattle.dg_edges.proofs.EdgeLemmas.{lists_more, lists_end, node_small, all_differ}
 use Rattle.dg_edges.proofs.lists.edge_lists.Goals as goal
 
