@@ -1,5 +1,5 @@
 -- The map keys that came again are those that stand more than once.
-use Rattle.std.proofs.Common.{◌≡◌, ℕ, zero, suc, ◌+◌, ◌<◌, Bool, true, false, cond, not, ◌&&◌, ◌||◌, nat_lt, List, [], ◌∷◌, ◌++◌, map, fold, filter, filter_map, flat_map, Option, Some, None, if◌then◌else◌, refl, sym, ap, ◌∙◌, arith, append-nil, append_assoc}
+use Rattle.std.proofs.Common.{◌≡◌, ℕ, zero, suc, ◌+◌, ◌<◌, Bool, true, false, cond, not, ◌&&◌, ◌||◌, nat_lt, List, [], ◌∷◌, ◌++◌, map, fold, filter, filter_map, flat_map, Option, Some, None, if◌then◌else◌, refl, sym, ap, ◌∙◌, arith, append-nil, append_assoc, zero-add}
 use Rattle.std.specs.List.{list_any, count_by, cons_option}
 use Rattle.std.proofs.lemmas.Bool.{false≢true, true≢false, lt-ltb, le-ltb}
 use Rattle.std.proofs.lemmas.List.Sums.{sum_by-cons}
@@ -263,7 +263,8 @@ repeated_are doc n ds once again seen =
     let c = counted_all (seen_of [] []) (λ k. 0) ks none_counted in
     let often : (k : MapKeyVal) → list_any (same_map_key k) again
             ≡ nat_lt 1 (count_by (same_map_key k) ks) =
-        λ k. ap (λ (s : Seen). list_any (same_map_key k) s.again) all ∙ c.again k in
+        λ k. ap (λ (s : Seen). list_any (same_map_key k) s.again) all ∙ c.again k
+        ∙ ap (nat_lt 1) (zero-add (count_by (same_map_key k) ks)) in
     ap (flat_map (where_again doc n again)) firsts
     ∙ (λ i. flat_map (λ k. cond (often k i) (at_node rule.MapKeys (Some (map_key_text k)) doc n
     ∷ []) []) (first_ones ks))
