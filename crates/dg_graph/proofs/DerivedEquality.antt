@@ -1,5 +1,5 @@
 -- The derived test of equality of nodes tells whether two nodes are one.
-use Rattle.std.proofs.Common.{◌≡◌, ◌↔◌, ℕ, Bool, true, false, ◌&&◌, refl, sym, ap, ◌∙◌}
+use Rattle.std.proofs.Common.{◌≡◌, true, refl, sym, ap, ◌∙◌}
 use Rattle.std.specs.Cmp.{first_so, second_so}
 use Rattle.std.proofs.lemmas.Bool.{true≢false, eqb-true}
 use Rattle.dg_types.specs.Equality.{same_key}
@@ -43,4 +43,8 @@ node_same a b h =
 
 pub same_decides : Decides same
 unfolding same
-same_decides a b = (node_same a b, λ e. ap (of_nodes.ghosts.eq a) (sym e) ∙ node_laws.laws-law.refl a)
+same_decides a b = (
+  node_same a b,
+  λ e. ap (of_nodes.ghosts.eq a) (sym e)
+      ∙ node_laws.laws-law.refl a,
+)

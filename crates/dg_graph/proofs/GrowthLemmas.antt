@@ -1,14 +1,13 @@
 -- Lists that grow by elements that they don't have.
-use Rattle.std.proofs.Common.{◌≡◌, inl, inr, ℕ, suc, ◌+◌, ◌<◌, Bool, true, false, List, [], ◌∷◌, ◌++◌, length, get_or, take, filter_map, map, flat_map, Contains, Option, Some, None, option_to_list, if◌then◌else◌, append_assoc, refl, sym, ap, subst, ◌∙◌, arith}
-use Rattle.std.specs.List.{list_any, cons_option, range_with_len}
+use Rattle.std.proofs.Common.{◌≡◌, inl, inr, ℕ, ◌+◌, ◌<◌, Bool, true, false, List, [], ◌∷◌, ◌++◌, length, get_or, take, filter_map, map, flat_map, Contains, Option, Some, None, option_to_list, if◌then◌else◌, append_assoc, refl, sym, ap, subst, ◌∙◌, arith}
+use Rattle.std.specs.List.{list_any, cons_option}
 use Rattle.std.proofs.lemmas.List.{append-nil, take_more, map-append}
 use Rattle.std.proofs.lemmas.List.Elements.{filter_map-append, Contains-append_left, Contains-append_right, Contains-append_cases}
 use Rattle.indexmap.specs.IndexSet.{insert_key}
-use Rattle.indexmap.proofs.CallerLemmas.{Contains-list_any, Contains-insert_key}
+use Rattle.indexmap.proofs.CallerLemmas.{Contains-list_any}
 use Rattle.dg_decl.specs.declared.graph.Node.{Node}
 use Rattle.dg_decl.specs.contracts.graph.NodePartialEq.TheImpl as of_nodes
 use Rattle.dg_decl.proofs.MemberLemmas.{none_in, the_one}
-use Rattle.dg_resolve.proofs.ListLemmas.{up_more}
 use Rattle.dg_graph.specs.Growth.{Grows}
 use Rattle.std.specs.Cmp.{first_so, second_so}
 use Rattle.std.proofs.lemmas.Bool.{eqb-true}
@@ -71,7 +70,8 @@ grows_by {A} eq same old new n e = by (list_any (eq n) old) refl
               (Contains-list_any eq same old n there));
         }
     by false there =
-        let is : new ≡ old ++ n ∷ [] = e ∙ ap (λ (c : Bool). if c then old else old ++ n ∷ []) there in
+        let is : new ≡ old ++ n ∷ [] = e ∙ ap (λ (c : Bool). if c then old else old ++ n ∷ [])
+        there in
         record {
           added = n ∷ [];
           whole = is;
@@ -105,7 +105,8 @@ pub map_take_more : {A B : Type 0} (f : A → B) (xs : List A) (i : ℕ) (d : A)
 map_take_more {A} {B} f xs i d lt =
     ap (map f) (take_more xs i d lt) ∙ map-append f (take i xs) (get_or xs i d ∷ [])
 
-pub flat_map_one_more : {A B : Type 0} (f : A → List B) (xs : List A) (i : ℕ) (x : A) → i < length xs
+pub flat_map_one_more : {A B : Type 0} (f : A → List B) (xs : List A) (i : ℕ) (x : A)
+    → i < length xs
     → x ≡ get_or xs i x → flat_map f (take (i + 1) xs) ≡ flat_map f (take i xs) ++ f x
 flat_map_one_more {A} {B} f xs i x lt is =
     ap (flat_map f) (take_more xs i x lt)
@@ -120,8 +121,10 @@ one_kept {A} {B} f x = by (f x)
     by None = refl
     by (Some y) = refl
 
-pub filter_map_more : {A B : Type 0} (f : A → Option B) (xs : List A) (i : ℕ) (x : A) → i < length xs
-    → x ≡ get_or xs i x → filter_map f (take (i + 1) xs) ≡ filter_map f (take i xs) ++ option_to_list (f x)
+pub filter_map_more : {A B : Type 0} (f : A → Option B) (xs : List A) (i : ℕ) (x : A)
+    → i < length xs
+    → x ≡ get_or xs i x → filter_map f (take (i + 1) xs) ≡ filter_map f
+    (take i xs) ++ option_to_list (f x)
 filter_map_more {A} {B} f xs i x lt is =
     ap (filter_map f) (take_more xs i x lt)
     ∙ ap (λ (y : A). filter_map f (take i xs ++ y ∷ [])) (sym is)

@@ -1,5 +1,5 @@
 -- Lists of found nodes of a class, part by part.
-use Rattle.std.proofs.Common.{◌≡◌, ◌+◌, ◌<◌, ℕ, Bool, true, false, List, [], ◌∷◌, ◌++◌, length, get_or, take, map, filter, flat_map, ◌&&◌, if◌then◌else◌, cond, append_assoc, refl, sym, ap, ◌∙◌}
+use Rattle.std.proofs.Common.{◌≡◌, ℕ, Bool, true, false, List, [], ◌∷◌, ◌++◌, map, filter, ◌&&◌, if◌then◌else◌, append_assoc, refl, sym, ap, ◌∙◌}
 use Rattle.std.specs.Prelude.{Result, Ok, Err, OnOk}
 use Rattle.std.proofs.lemmas.List.{append-nil, map-append}
 use Rattle.std.proofs.lemmas.List.Elements.{filter-append}
@@ -58,27 +58,34 @@ keeps_one found c k b old new is added =
 
 -- ---- a set, map or optional
 
-pub keeps_group : (doc : Doc) (found : List Node) (c index : ℕ) (does : BindKind) (key : Key) (j : Inner)
+pub keeps_group : (doc : Doc) (found : List Node) (c index : ℕ) (does : BindKind) (key : Key)
+    (j : Inner)
     (has b : Bool) (old new : List Node) → has ≡ has_group does key.core j → has ≡ true
-    → b ≡ (is_among found (node_of c (group does key j)) && stands_at doc c index (group does key j))
+    → b ≡ (is_among found (node_of c (group does key j)) && stands_at doc c index
+    (group does key j))
     → new ≡ old ++ (if b then node_of c (group does key j) ∷ [] else [])
     → new ≡ old ++ kept found c (group_at doc c index does key j)
 unfolding group_at
 keeps_group doc found c index does key j has b old new is so listed added =
-    added ∙ ap (λ (l : List Node). old ++ l) (ap (λ (t : Bool). if t then node_of c (group does key j) ∷ [] else []) listed ∙ same ∙ sym there)
+    added ∙ ap (λ (l : List Node). old ++ l) (ap (λ (t : Bool). if t then node_of c
+    (group does key j) ∷ [] else []) listed ∙ same ∙ sym there)
   where
     g : NodeKind
     g = group does key j
 
-    there : kept found c (if has_group does key.core j then (if stands_at doc c index g then g ∷ [] else []) else [])
+    there : kept found c (if has_group does key.core j then (if stands_at doc c index g then g ∷ []
+        else []) else [])
         ≡ kept found c (if stands_at doc c index g then g ∷ [] else [])
-    there = ap (λ (t : Bool). kept found c (if t then (if stands_at doc c index g then g ∷ [] else []) else [])) (sym is ∙ so)
+    there = ap (λ (t : Bool). kept found c (if t then (if stands_at doc c index g then g ∷ [] else
+        []) else [])) (sym is ∙ so)
 
     at : (s : Bool) → (if is_among found (node_of c g) && s then node_of c g ∷ [] else [])
         ≡ kept found c (if s then g ∷ [] else [])
-    at true = both (is_among found (node_of c g)) ∙ sym (kept_one found c g (is_among found (node_of c g)) refl)
+    at true = both (is_among found (node_of c g)) ∙ sym (kept_one found c g
+        (is_among found (node_of c g)) refl)
       where
-        both : (t : Bool) → (if t && true then node_of c g ∷ [] else []) ≡ (if t then node_of c g ∷ [] else [])
+        both : (t : Bool) → (if t && true then node_of c g ∷ [] else []) ≡
+            (if t then node_of c g ∷ [] else [])
         both true = refl
         both false = refl
     at false = neither (is_among found (node_of c g)) ∙ sym (kept_none found c)
@@ -87,21 +94,25 @@ keeps_group doc found c index does key j has b old new is so listed added =
         neither true = refl
         neither false = refl
 
-    same : (if is_among found (node_of c g) && stands_at doc c index g then node_of c g ∷ [] else [])
+    same : (if is_among found (node_of c g) && stands_at doc c index g then node_of c g ∷ [] else
+        [])
         ≡ kept found c (if stands_at doc c index g then g ∷ [] else [])
     same = at (stands_at doc c index g)
 
-pub no_group : (doc : Doc) (found : List Node) (c index : ℕ) (does : BindKind) (key : Key) (j : Inner)
+pub no_group : (doc : Doc) (found : List Node) (c index : ℕ) (does : BindKind) (key : Key)
+    (j : Inner)
     (has : Bool) (old : List Node) → has ≡ has_group does key.core j → has ≡ false
     → old ≡ old ++ kept found c (group_at doc c index does key j)
 unfolding group_at
 no_group doc found c index does key j has old is so =
     sym (adds_none found c old)
-    ∙ ap (λ (t : Bool). old ++ kept found c (if t then (if stands_at doc c index (group does key j) then group does key j ∷ [] else []) else []))
+    ∙ ap (λ (t : Bool). old ++ kept found c (if t then (if stands_at doc c index
+    (group does key j) then group does key j ∷ [] else []) else []))
     (sym (sym is ∙ so))
 
 -- five parts, one after another
-pub five_more : (found : List Node) (c : ℕ) (n0 n1 n2 n3 n4 n5 : List Node) (ks ls ms os ps : List NodeKind)
+pub five_more : (found : List Node) (c : ℕ) (n0 n1 n2 n3 n4 n5 : List Node)
+    (ks ls ms os ps : List NodeKind)
     → n1 ≡ n0 ++ kept found c ks → n2 ≡ n1 ++ kept found c ls → n3 ≡ n2 ++ kept found c ms
     → n4 ≡ n3 ++ kept found c os → n5 ≡ n4 ++ kept found c ps
     → n5 ≡ n0 ++ kept found c (ks ++ (ls ++ (ms ++ (os ++ ps))))

@@ -1,9 +1,8 @@
 -- The places of found nodes.
-use Rattle.std.proofs.Common.{◌≡◌, ℕ, Bool, true, false, List, [], ◌∷◌, map, flat_map, Contains, Option, Some, None, option_to_list, ap, ◌∙◌, sym}
-use Rattle.std.specs.List.{list_any}
+use Rattle.std.proofs.Common.{◌≡◌, ℕ, true, List, [], flat_map, Contains, Some, option_to_list}
 use Rattle.dg_decl.specs.declared.document.Doc.{Doc}
 use Rattle.dg_decl.specs.declared.graph.Node.{Node}
-use Rattle.dg_decl.proofs.MemberLemmas.{in_front, in_map, in_option, in_flat_map}
+use Rattle.dg_decl.proofs.MemberLemmas.{in_map, in_option, in_flat_map}
 use Rattle.dg_decl.proofs.NodeWalks.{any_from}
 use Rattle.dg_graph.specs.contracts.marks.PlacePartialEq.TheImpl as of_places
 use Rattle.dg_graph.specs.declared.marks.Place.{Place}
@@ -26,5 +25,6 @@ pub taken_there : (doc : Doc) (found : List Node) (taken : List Place) (n : Node
     → AreTaken doc found taken → Contains found n → place_of doc n.class n.kind ≡ Some i
     → is_taken taken n.class i ≡ true
 taken_there doc found taken n i are among stands =
-    any_from (of_places.ghosts.eq (place n.class i)) taken (place n.class i) (are.each n i among stands)
+    any_from (of_places.ghosts.eq (place n.class i)) taken (place n.class i)
+    (are.each n i among stands)
     (place_is_itself (place n.class i))

@@ -1,5 +1,5 @@
 -- The work list: its begin, its step and its end.
-use Rattle.std.proofs.Common.{◌≡◌, inl, inr, ℕ, suc, ◌+◌, ◌<◌, ◌≤◌, ◌^◌, List, [], ◌∷◌, ◌++◌, length, get_or, map, filter_map, flat_map, slice_get, Contains, Option, Some, None, refl, sym, ap, subst, ◌∙◌, arith}
+use Rattle.std.proofs.Common.{◌≡◌, inl, inr, ℕ, ◌+◌, ◌<◌, ◌≤◌, List, [], ◌++◌, length, map, slice_get, Contains, Option, Some, sym, ap, subst, ◌∙◌, arith}
 use Rattle.std.specs.List.{range_with_len}
 use Rattle.std.specs.Option.{option_map_or}
 use Rattle.std.proofs.lemmas.Bool.{cases_lt}
@@ -11,11 +11,11 @@ use Rattle.dg_decl.specs.declared.component.Class.{Class}
 use Rattle.dg_decl.specs.declared.graph.Node.{Node}
 use Rattle.dg_decl.specs.declared.graph.NodeKind.TheVariants as node
 use Rattle.dg_decl.specs.Components.{class_count, class_of_number, component_classes}
-use Rattle.dg_decl.specs.Graph.{node_of, target, targets, deps, entry_nodes, candidates, kinds_of, IsReachable}
-use Rattle.dg_decl.specs.Walks.{IsReached, root, step}
+use Rattle.dg_decl.specs.Graph.{node_of, targets, entry_nodes, candidates, kinds_of, IsReachable}
+use Rattle.dg_decl.specs.Walks.{root, step}
 use Rattle.dg_decl.specs.Components.{entries_of}
 use Rattle.dg_decl.proofs.GraphLemmas.{reached_nodes, node_is_candidate}
-use Rattle.dg_decl.proofs.MemberLemmas.{none_in, in_got, out_flat_map, out_map, out_range}
+use Rattle.dg_decl.proofs.MemberLemmas.{in_got, out_flat_map, out_map, out_range}
 use Rattle.dg_resolve.proofs.ListLemmas.{at_range, flat_map_same}
 use Rattle.dg_graph.specs.Growth.{Grows}
 use Rattle.dg_graph.specs.Reached.{entries_at, entries_as_nodes, first_entries, Walked, AreReached}
@@ -68,7 +68,8 @@ kept_place old added k m lt at =
     ∙ ap Some (sym (get_or_append_left old added m k lt))
     ∙ ap Some (get_or_from_slice_get (old ++ added) k m m at)
 
-pub walk_goes_on : (doc : Doc) (old new more : List Node) (place : ℕ) (m : Node) → Walked doc old place
+pub walk_goes_on : (doc : Doc) (old new more : List Node) (place : ℕ) (m : Node)
+    → Walked doc old place
     → slice_get old place ≡ Some m → more ≡ targets doc m → Grows more old new
     → Walked doc new (place + 1)
 walk_goes_on doc old new more place m walked at e grows =
@@ -90,7 +91,8 @@ walk_goes_on doc old new more place m walked at e grows =
       closed = λ k x n lt is leads.
           (let before : slice_get (old ++ grows.added) k ≡ Some x =
           ap (λ (l : List Node). slice_get l k) (sym grows.whole) ∙ is in
-          let stood : slice_get old k ≡ Some x = kept_place old grows.added k x (omega arith) before in
+          let stood : slice_get old k ≡ Some x = kept_place old grows.added k x
+          (omega arith) before in
           elim (cases_lt k place) [
             | inl below ↦ keeps n (walked.closed k x n below stood leads)
             | inr above ↦ (let here : k ≡ place = omega arith in

@@ -1,6 +1,6 @@
 -- The kinds of a class that are among found nodes, in the order of nodes.
-use Rattle.std.specs.Prelude.{ℕ, Bool, true, false, ◌==◌, ◌&&◌, if◌then◌else◌, List, [], ◌∷◌, ◌++◌, map, filter, flat_map, slice_get, Option, Some, None, is_some, option_map, option_to_list, unwrap_or, Contains, ◌≡◌, ◌≤◌, drop, take, length, filter_map}
-use Rattle.std.specs.List.{list_any, range_with_len}
+use Rattle.std.specs.Prelude.{ℕ, Bool, true, false, ◌==◌, ◌&&◌, if◌then◌else◌, List, [], ◌∷◌, ◌++◌, map, filter, flat_map, slice_get, Option, Some, None, is_some, option_to_list, unwrap_or, ◌≡◌, ◌≤◌, drop, take, length, filter_map}
+use Rattle.std.specs.List.{list_any}
 use Rattle.std.specs.Option.{option_map_or}
 use Rattle.dg_types.specs.declared.key.Key.{Key}
 use Rattle.dg_types.specs.declared.key.Core.{Core}
@@ -9,8 +9,6 @@ use Rattle.dg_types.specs.declared.key.Inner.{Inner}
 use Rattle.dg_types.specs.declared.key.Inner.TheVariants as inner
 use Rattle.dg_decl.specs.contracts.graph.NodePartialEq.TheImpl as of_nodes
 use Rattle.dg_decl.specs.declared.document.Doc.{Doc}
-use Rattle.dg_decl.specs.declared.component.Bound.{Bound}
-use Rattle.dg_decl.specs.declared.component.Class.{Class}
 use Rattle.dg_decl.specs.declared.component.Exposed.{Exposed}
 use Rattle.dg_decl.specs.declared.binding.Bind.{Bind}
 use Rattle.dg_decl.specs.declared.binding.BindKind.{BindKind}
@@ -22,7 +20,7 @@ use Rattle.dg_decl.specs.declared.graph.NodeKind.{NodeKind}
 use Rattle.dg_decl.specs.declared.graph.NodeKind.TheVariants as node
 use Rattle.dg_decl.specs.Document.{Statement, statements}
 use Rattle.dg_decl.specs.Components.{is_number, bound_in}
-use Rattle.dg_decl.specs.Lookup.{binding_of, bindings}
+use Rattle.dg_decl.specs.Lookup.{binding_of}
 use Rattle.dg_decl.specs.Graph.{node_of, own_binding, first_statement, kinds_at}
 
 -- two nodes are one
@@ -159,7 +157,8 @@ is_empty [] = true
 is_empty (x ∷ xs) = false
 
 -- the kinds that found nodes on a statement can have
-abbrev pub kinds_on : Doc → ℕ → Option BindRef → List Exposed → Option Bind → Statement → List NodeKind
+abbrev pub kinds_on : Doc → ℕ → Option BindRef → List Exposed → Option Bind → Statement
+    → List NodeKind
 kinds_on doc c arg xs b s =
     own_kinds s ++ (bound_kinds arg ++ (exposed_kinds xs
     ++ ((node.EntryOf s.index ∷ []) ++ groups_of_option doc c s.index b)))
@@ -172,7 +171,8 @@ default_where is_there = if is_there then Some binding.Default else None
 
 -- The nodes have what stands on the statements before this one, so many bound arguments are among
 -- these, and the bindings from a place on are those of the statements that are left.
-pub record KnowsClass (doc : Doc) (found : List Node) (c : ℕ) (header : Option ℕ) (binds : List Bind)
+pub record KnowsClass (doc : Doc) (found : List Node) (c : ℕ) (header : Option ℕ)
+    (binds : List Bind)
     (before : List Node) (i passed next : ℕ) (nodes : List Node) : Type 0 where
   pub done : nodes ≡ before ++ kept found c (flat_map (kinds_at doc c) (take i (statements doc)))
   pub counted : passed ≡ length (filter (is_line header) (take i (statements doc)))

@@ -23,7 +23,8 @@ abbrev pub is_taken : List Place → ℕ → ℕ → Bool
 is_taken taken c i = list_any (of_places.ghosts.eq (place c i)) taken
 
 -- the kinds that found nodes on a statement can have, unless there can be none
-abbrev pub kinds_where : Doc → List Place → ℕ → Option BindRef → List Exposed → Option Bind → Statement → List NodeKind
+abbrev pub kinds_where : Doc → List Place → ℕ → Option BindRef → List Exposed → Option Bind
+    → Statement → List NodeKind
 kinds_where doc taken c arg xs b s =
     if is_some arg || (not (is_empty xs) || is_taken taken c s.index)
     then kinds_on doc c arg xs b s else []

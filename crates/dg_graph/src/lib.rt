@@ -10,3 +10,4 @@ mod sources;
 
 pub use building::{bind_graph, graph_of};
 pub use dg_decl::{BindGraph, Edge, EdgeKind, Node, NodeKind};
+pub use dg_sites::site_text;

@@ -39,7 +39,8 @@ pub fn place_of(lookups: &Lookups<'_>, node: &Node) -> Option<u32>
 
 /// Notes a place.
 fn note(taken: &mut IndexSet<Place>, class: u32, index: u32) -> Result<(), NoMemory>
-    ensures exact { OnOk result (Grows (spec.place class index ∷ []) taken.old.keys taken.new.keys) }
+    ensures exact { OnOk result (Grows (spec.place class index ∷ [])
+        taken.old.keys taken.new.keys) }
 {
     taken.insert(Place { class, index })?;
     Ok(())

@@ -188,7 +188,8 @@ fn keep_all(
 
 /// Whether a found node of a class can stand on a statement.
 fn has_nodes(taken: &IndexSet<Place>, class: u32, seen: Seen<'_>, index: u32) -> bool
-    ensures exact { result ≡ (is_some seen.entry.argument || (not (spec.is_empty seen.entry.exposed.now)
+    ensures exact { result ≡ (is_some seen.entry.argument
+        || (not (spec.is_empty seen.entry.exposed.now)
         || vacant.is_taken taken.now.keys class index)) }
 {
     seen.argument.is_some() || (!seen.exposed.is_empty() || is_taken(taken, class, index))
@@ -249,9 +250,11 @@ fn keep_statements(
     requires names { names.now ≡ dependencies.now }
     requires lookups { sources.lookups.now ≡ dependencies.now }
     requires found { AreReached dependencies.now sources.found.now.keys }
-    requires taken { vacant.AreTaken dependencies.now sources.found.now.keys sources.taken.now.keys }
-    ensures exact { OnOk result (nodes.new.items ≡ nodes.old.items ++ spec.kept sources.entry.found.now.keys
-        class (flat_map (graph.kinds_at dependencies.now class) (document.statements dependencies.now))) }
+    requires taken { vacant.AreTaken dependencies.now sources.found.now.keys
+        sources.taken.now.keys }
+    ensures exact { OnOk result (nodes.new.items ≡ nodes.old.items
+        ++ spec.kept sources.entry.found.now.keys class
+        (flat_map (graph.kinds_at dependencies.now class) (document.statements dependencies.now))) }
 {
     let header = names.header_of(class);
     let exposed = exposed_at(dependencies.exposed(), class);
@@ -319,7 +322,8 @@ fn keep_class(
     requires names { names.now ≡ dependencies.now }
     requires lookups { sources.lookups.now ≡ dependencies.now }
     requires found { AreReached dependencies.now sources.found.now.keys }
-    requires taken { vacant.AreTaken dependencies.now sources.found.now.keys sources.taken.now.keys }
+    requires taken { vacant.AreTaken dependencies.now sources.found.now.keys
+        sources.taken.now.keys }
     ensures exact { OnOk result (nodes.new.items ≡ nodes.old.items
         ++ spec.kept sources.entry.found.now.keys class (graph.kinds_of dependencies.now class)) }
 {

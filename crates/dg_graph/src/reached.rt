@@ -85,10 +85,7 @@ fn add_all_entries(classes: &[Class], found: &mut IndexSet<Node>) -> Result<(), 
 }
 
 /// The reachable nodes, in the order in which they are found.
-pub fn reachable(
-    alloc: Global,
-    dependencies: &Dependencies<'_>,
-) -> Result<IndexSet<Node>, NoMemory>
+pub fn reachable(alloc: Global, dependencies: &Dependencies<'_>) -> Result<IndexSet<Node>, NoMemory>
     ensures exact { IfOk result (λ found. spec.AreReached dependencies.now found.keys) }
 {
     let _doc = dependencies.doc();

@@ -1,4 +1,4 @@
-use Rattle.std.proofs.Common.{◌≡◌, ◌&&◌, List, [], ◌∷◌, ◌++◌, Bool, if◌then◌else◌, subst, sym, ap, ◌∙◌}
+use Rattle.std.proofs.Common.{◌≡◌, ◌&&◌, [], ◌∷◌, ◌++◌, if◌then◌else◌, subst}
 use Rattle.dg_decl.specs.declared.graph.NodeKind.{NodeKind}
 use Rattle.dg_decl.specs.Graph.{node_of}
 use Rattle.dg_graph.specs.Kept.{is_among, stands_at}
@@ -18,10 +18,14 @@ returns-in_ok-kind c =
     record {
       exact = on_ok c.push_if.result
           (λ (added : new ≡ old ++ (if listed then node_of class c.in_ok-kind.kind ∷ [] else [])).
-          keeps_group doc found class index b.kind b.key c.args.inner c.has_group.result listed old new
+          keeps_group doc found class index b.kind b.key c.args.inner c.has_group.result listed old
+          new
           c.has_group.ensures.exact c.if-has_group.true
-          (subst (λ (k : NodeKind). listed ≡ (is_among found (node_of class k) && stands_at doc class index k)) c.in_ok-kind.ensures.exact c.is_listed-listed.ensures.exact)
-          (subst (λ (k : NodeKind). new ≡ old ++ (if listed then node_of class k ∷ [] else [])) c.in_ok-kind.ensures.exact added))
+          (subst (λ (k : NodeKind). listed ≡ (is_among found
+          (node_of class k) && stands_at doc class index k)) c.in_ok-kind.ensures.exact
+          c.is_listed-listed.ensures.exact)
+          (subst (λ (k : NodeKind). new ≡ old ++ (if listed then node_of class k ∷ [] else []))
+          c.in_ok-kind.ensures.exact added))
           c.push_if.ensures.exact;
     }
 
@@ -29,7 +33,9 @@ pub returns-else-has_group : goal.returns-else-has_group
 returns-else-has_group c =
     let b = c.args.bind.now in
     record {
-      exact = no_group c.args.sources.lookups.now c.args.sources.found.now.keys c.args.class c.args.index
-          b.kind b.key c.args.inner c.has_group.result c.args.nodes.now.items c.has_group.ensures.exact
+      exact = no_group c.args.sources.lookups.now c.args.sources.found.now.keys c.args.class
+          c.args.index
+          b.kind b.key c.args.inner c.has_group.result c.args.nodes.now.items
+          c.has_group.ensures.exact
           c.if-has_group.false;
     }

@@ -17,14 +17,17 @@ returns c =
     let old = c.args.nodes.now.items in
     let mid = c.keep_default.new.nodes.items in
     let new = c.keep_statements.new.nodes.items in
-    let kind = default_is doc c.as_slice.result.now class c.header_of.result c.bounds_at-bounds.result.now
+    let kind = default_is doc c.as_slice.result.now class c.header_of.result
+    c.bounds_at-bounds.result.now
     c.has_default-is_there.result (c.as_slice.ensures ∙ c.tree.ensures.exact) c.requires.class
     (c.header_of.ensures.exact ∙ ap (λ (d : Doc). header_index d class) c.requires.names)
     c.bounds_at-bounds.ensures.exact c.has_default-is_there.ensures.exact in
     record {
       exact = on_ok c.keep_statements.result
-          (goes_on found class old mid new (default_kind doc class) (flat_map (kinds_at doc class) (statements doc))
+          (goes_on found class old mid new (default_kind doc class)
+          (flat_map (kinds_at doc class) (statements doc))
           (kinds_of doc class) refl
-          (subst (λ (ks : List NodeKind). mid ≡ old ++ kept found class ks) kind c.in_ok-keep_default.ensures.exact))
+          (subst (λ (ks : List NodeKind). mid ≡ old ++ kept found class ks) kind
+          c.in_ok-keep_default.ensures.exact))
           c.keep_statements.ensures.exact;
     }

@@ -1,4 +1,4 @@
-use Rattle.std.proofs.Common.{ℕ, ◌≡◌, ◌++◌, ◌||◌, not, is_some, List, [], Bool, true, false, if◌then◌else◌, option_copied, ap, subst, sym, ◌∙◌}
+use Rattle.std.proofs.Common.{ℕ, ◌≡◌, ◌++◌, ◌||◌, not, is_some, [], Bool, if◌then◌else◌, option_copied, ap, subst, sym, ◌∙◌}
 use Rattle.std.specs.Prelude.{OnOk}
 use Rattle.dg_decl.specs.Document.{Statement}
 use Rattle.dg_graph.specs.Kept.{kept, kinds_on, is_empty}
@@ -13,13 +13,16 @@ returns-then-has_nodes c =
     let taken = c.args.sources.taken.now.keys in
     let kinds = kinds_on c.args.sources.lookups.now class seen.argument seen.exposed.now
     (option_copied seen.bind) c.args.statement.now in
-    let at : c.statement.inside.index ≡ c.args.statement.now.index = ap (λ (x : Statement). x.index) c.statement.view_is in
+    let at : c.statement.inside.index ≡ c.args.statement.now.index = ap
+    (λ (x : Statement). x.index) c.statement.view_is in
     record {
       exact = subst
           (λ (b : Bool). OnOk c.keep_all.result (c.keep_all.new.nodes.items
-          ≡ c.args.nodes.now.items ++ kept c.args.sources.found.now.keys class (if b then kinds else [])))
+          ≡ c.args.nodes.now.items ++ kept c.args.sources.found.now.keys class
+          (if b then kinds else [])))
           (sym c.if-has_nodes.true ∙ c.has_nodes.ensures.exact
-          ∙ ap (λ (i : ℕ). is_some seen.argument || (not (is_empty seen.exposed.now) || is_taken taken class i)) at)
+          ∙ ap (λ (i : ℕ). is_some seen.argument || (not
+          (is_empty seen.exposed.now) || is_taken taken class i)) at)
           c.keep_all.ensures.exact;
     }
 
@@ -32,10 +35,12 @@ returns-else-has_nodes c =
     let old = c.args.nodes.now.items in
     let kinds = kinds_on c.args.sources.lookups.now class seen.argument seen.exposed.now
     (option_copied seen.bind) c.args.statement.now in
-    let at : c.statement.inside.index ≡ c.args.statement.now.index = ap (λ (x : Statement). x.index) c.statement.view_is in
+    let at : c.statement.inside.index ≡ c.args.statement.now.index = ap
+    (λ (x : Statement). x.index) c.statement.view_is in
     record {
       exact = subst (λ (b : Bool). old ≡ old ++ kept found class (if b then kinds else []))
           (sym c.if-has_nodes.false ∙ c.has_nodes.ensures.exact
-          ∙ ap (λ (i : ℕ). is_some seen.argument || (not (is_empty seen.exposed.now) || is_taken taken class i)) at)
+          ∙ ap (λ (i : ℕ). is_some seen.argument || (not
+          (is_empty seen.exposed.now) || is_taken taken class i)) at)
           (sym (adds_none found class old));
     }

@@ -1,4 +1,4 @@
-use Rattle.std.proofs.Common.{ℕ, ◌≡◌, ◌<◌, ◌≤◌, ◌++◌, List, flat_map, sym, ap, subst, ◌∙◌, arith}
+use Rattle.std.proofs.Common.{ℕ, ◌≡◌, ◌<◌, ◌++◌, List, flat_map, sym, ap, subst, ◌∙◌, arith}
 use Rattle.std.specs.List.{range_with_len}
 use Rattle.dg_decl.specs.declared.document.Doc.{Doc}
 use Rattle.dg_decl.specs.declared.graph.Node.{Node}
@@ -16,7 +16,8 @@ loop-class-init c = c.new-nodes.ensures.items
 
 pub places-requires : goal.places-requires
 places-requires c = record {
-  found = subst (λ (d : Doc). AreReached d c.args.found.now.keys) (sym c.lookups-lookups.ensures.exact) c.requires.found;
+  found = subst (λ (d : Doc). AreReached d c.args.found.now.keys)
+      (sym c.lookups-lookups.ensures.exact) c.requires.found;
 }
 
 pub keep_class-requires : goal.keep_class-requires

@@ -1,6 +1,5 @@
-use Rattle.std.proofs.Common.{ℕ, ◌+◌, sym, ap, subst}
+use Rattle.std.proofs.Common.{ℕ, ◌+◌, sym, subst}
 use Rattle.std.proofs.Common.{List}
-use Rattle.dg_decl.specs.declared.graph.Node.{Node}
 use Rattle.dg_graph.specs.Growth.{Grows}
 use Rattle.dg_graph.specs.Reached.{entries_at, entries_as_nodes, first_entries}
 use Rattle.dg_resolve.proofs.ListLemmas.{up_more}
