@@ -1,0 +1,8 @@
+use Rattle.std.proofs.Common.{◌≡◌, ◌++◌, take, flat_map}
+use Rattle.dg_rules.specs.Requests.{missing_at}
+use Rattle.dg_rules.proofs.requests.missing_binding.Given as goal
+
+abbrev pub invariant-loop-d : goal.invariant-loop-d
+invariant-loop-d l =
+    l.broken.items
+    ≡ l.fn.broken.items ++ flat_map (missing_at l.sites l.node) (take l.d-index l.needed)
