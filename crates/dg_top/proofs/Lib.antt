@@ -1,3 +1,5 @@
 pub mod StreamLemmas
+pub mod ReadingLemmas
 pub mod OutputLemmas
 pub mod RunLemmas
+pub mod AnswerLemmas

@@ -1,90 +1,156 @@
--- Each words and bytes have exactly one status and text.
-use Rattle.std.proofs.Common.{◌≡◌, ◌⊎◌, inl, inr, ℕ, ◌<◌, ◌≤◌, List, [], ◌∷◌, ◌++◌, length, refl, sym, ap, ◌∙◌, arith}
+-- Each program, words and bytes have exactly one status and text.
+use Rattle.std.proofs.Common.{◌≡◌, ◌⊎◌, inl, inr, ◌<◌, ◌≤◌, Bool, true, false, List, [], ◌∷◌, ◌++◌, length, refl, sym, ap, subst, ◌∙◌, arith}
 use Rattle.std.specs.Prelude.{◌≢◌, codes, decimal}
+use Rattle.std.specs.Bool.{Decides}
 use Rattle.std.specs.List.{flat_map}
-use Rattle.std.proofs.lemmas.Bool.{cases_lt}
+use Rattle.std.specs.Str.{bytes_eq}
+use Rattle.std.proofs.lemmas.Bool.{cases_lt, false≢true}
 use Rattle.std.proofs.lemmas.List.{length-append}
-use Rattle.dg_early.specs.declared.document.Doc.{Doc}
+use Rattle.std.proofs.lemmas.Slice.Eq.{bytes_eq-Decides}
 use Rattle.dg_lex.specs.Bytes.{Bytes, line_end}
-use Rattle.dg_early.specs.Reading.{FirstBad, Reads, IsReadOnce, IsRefusedOnce}
-use Rattle.dg_early.proofs.OneReading.{reads_once}
-use Rattle.dg_top.specs.declared.status.Status.{Status}
-use Rattle.dg_top.specs.declared.status.Status.TheVariants.{Ran, Refused, BadWords, BadLine, TooLong}
-use Rattle.dg_top.specs.Output.{document_limit, too_long_text, bad_line_text, IsOutput, bad_words, too_long, bad_line, refused, ran, HasOneOutput, OneOutput}
+use Rattle.dg_early.specs.declared.document.Doc.{Doc as FirstDoc}
+use Rattle.dg_early.specs.Reading as first_forms
 use Rattle.dg_early.specs.declared.rules.violation.Violation.{Violation}
 use Rattle.dg_early.specs.Report.{replies, asks_of, cell_count, report}
 use Rattle.dg_early.specs.Rules.{violations, head_of, line_of, diagnostics}
+use Rattle.dg_decl.specs.Reading as language
+use Rattle.dg_decl.specs.Canonical.{canonical_text}
+use Rattle.dg_top.specs.declared.status.Status.{Status}
+use Rattle.dg_top.specs.declared.status.Status.TheVariants.{Ran, Refused, BadWords, BadLine, TooLong}
+use Rattle.dg_top.specs.declared.command.Program.{Program}
+use Rattle.dg_top.specs.declared.command.Program.TheVariants.{Dagrun, Dagc}
+use Rattle.dg_top.specs.declared.command.Command.{Command}
+use Rattle.dg_top.specs.declared.command.Command.TheVariants.{Run, Print}
+use Rattle.dg_top.specs.Commands.{AsksFor, HasNoWords}
+use Rattle.dg_top.specs.Output.{document_limit, too_long_text, bad_line_text, Refuses, Gives, IsAnswer, too_long, bad_line, refused, ran, IsOutput, bad_words, answered, HasOneOutput, OneOutput}
+use Rattle.dg_top.proofs.ReadingLemmas.{HasReading, is_read, is_bad, first_reading, language_reading, one_first_bad, one_refusal, one_given, bad_isnt_refused, bad_isnt_given, refused_isnt_given}
 
-same_line : (bytes : Bytes) (m n : ℕ) → IsReadOnce bytes ⊎ IsRefusedOnce bytes → FirstBad bytes m → FirstBad bytes n → n ≡ m
-same_line bytes m n (inl r) f g = absurd (r.none_bad m f)
-same_line bytes m n (inr r) f g = r.only n g ∙ sym (r.only m f)
+-- ---- a command has one answer to bytes
 
-same_doc : (bytes : Bytes) (d e : Doc) → IsReadOnce bytes ⊎ IsRefusedOnce bytes → Reads bytes d → Reads bytes e → e ≡ d
-same_doc bytes d e (inl r) f g = r.only e g ∙ sym (r.only d f)
-same_doc bytes d e (inr r) f g = absurd (r.none_read d f)
+-- two answers of a command to the same bytes are one
+pub only_answer : (command : Command) (bytes : Bytes) (s t : Status) (x y : Bytes) → IsAnswer command bytes s x → IsAnswer command bytes t y → (t ≡ s) × (y ≡ x)
+only_answer command bytes s t x y (too_long over) (too_long more) = (refl, refl)
+only_answer command bytes s t x y (too_long over) (bad_line n within first) = absurd (omega arith)
+only_answer command bytes s t x y (too_long over) (refused within refuses) = absurd (omega arith)
+only_answer command bytes s t x y (too_long over) (ran within gives) = absurd (omega arith)
+only_answer command bytes s t x y (bad_line n within first) (too_long over) = absurd (omega arith)
+only_answer command bytes s t x y (bad_line m within first) (bad_line n less other) = (refl, ap bad_line_text (one_first_bad command bytes m n first other))
+only_answer command bytes s t x y (bad_line n within first) (refused {text = z} less refuses) = absurd (bad_isnt_refused command bytes n z first refuses)
+only_answer command bytes s t x y (bad_line n within first) (ran {text = z} less gives) = absurd (bad_isnt_given command bytes n z first gives)
+only_answer command bytes s t x y (refused within refuses) (too_long over) = absurd (omega arith)
+only_answer command bytes s t x y (refused {text = z} within refuses) (bad_line n less first) = absurd (bad_isnt_refused command bytes n z first refuses)
+only_answer command bytes s t x y (refused {text = z} within refuses) (refused {text = w} less other) = (refl, one_refusal command bytes z w refuses other)
+only_answer command bytes s t x y (refused {text = z} within refuses) (ran {text = w} less gives) = absurd (refused_isnt_given command bytes z w refuses gives)
+only_answer command bytes s t x y (ran within gives) (too_long over) = absurd (omega arith)
+only_answer command bytes s t x y (ran {text = z} within gives) (bad_line n less first) = absurd (bad_isnt_given command bytes n z first gives)
+only_answer command bytes s t x y (ran {text = z} within gives) (refused {text = w} less refuses) = absurd (refused_isnt_given command bytes w z refuses gives)
+only_answer command bytes s t x y (ran {text = z} within gives) (ran {text = w} less other) = (refl, one_given command bytes z w gives other)
 
-not_both : (bytes : Bytes) (n : ℕ) (d : Doc) → IsReadOnce bytes ⊎ IsRefusedOnce bytes → FirstBad bytes n → Reads bytes d → ⊥
-not_both bytes n d (inl r) f g = r.none_bad n f
-not_both bytes n d (inr r) f g = r.none_read d g
+abbrev HasAnswer : Command → Bytes → Type 0
+HasAnswer command bytes = (status : Status) × (text : Bytes) × IsAnswer command bytes status text
 
--- one of two documents that are read breaks a rule, and the other doesn't
-not_good : (bytes : Bytes) (d e : Doc) → Reads bytes d → Reads bytes e → violations d.items ≢ [] → violations e.items ≡ [] → ⊥
-not_good bytes d e f g broken good = broken (ap (λ (doc : Doc). violations doc.items) (same_doc bytes e d (reads_once bytes) g f) ∙ good)
+run_read : (bytes : Bytes) (doc : FirstDoc) → length bytes ≤ document_limit → first_forms.Reads bytes doc → (vs : List Violation) → violations doc.items ≡ vs → HasAnswer Run bytes
+run_read bytes doc within reads [] is = (Ran, report doc.items, ran within record { doc = doc; reads = reads; good = is; is_text = refl })
+run_read bytes doc within reads (v ∷ vs) is =
+    (Refused, diagnostics doc.items, refused within record { doc = doc; reads = reads; broken = λ none. absurd (let e : v ∷ vs ≡ [] = sym is ∙ none in cc); is_text = refl })
 
--- two outputs of the same words and bytes are one
-pub only_output : (words : List Bytes) (bytes : Bytes) (s t : Status) (x y : Bytes) → IsOutput words bytes s x → IsOutput words bytes t y → (t ≡ s) × (y ≡ x)
-only_output words bytes s t x y (bad_words some) (bad_words more) = (refl, refl)
-only_output words bytes s t x y (bad_words some) (too_long none over) = absurd (some none)
-only_output words bytes s t x y (bad_words some) (bad_line none within first) = absurd (some none)
-only_output words bytes s t x y (bad_words some) (refused none within reads broken) = absurd (some none)
-only_output words bytes s t x y (bad_words some) (ran none within reads good) = absurd (some none)
-only_output words bytes s t x y (too_long none over) (bad_words some) = absurd (some none)
-only_output words bytes s t x y (too_long none over) (too_long also more) = (refl, refl)
-only_output words bytes s t x y (too_long none over) (bad_line also within first) = absurd (omega arith)
-only_output words bytes s t x y (too_long none over) (refused also within reads broken) = absurd (omega arith)
-only_output words bytes s t x y (too_long none over) (ran also within reads good) = absurd (omega arith)
-only_output words bytes s t x y (bad_line none within first) (bad_words some) = absurd (some none)
-only_output words bytes s t x y (bad_line none within first) (too_long also over) = absurd (omega arith)
-only_output words bytes s t x y (bad_line {n = m} none within first) (bad_line {n = n} also less other) = (refl, ap bad_line_text (same_line bytes m n (reads_once bytes) first other))
-only_output words bytes s t x y (bad_line {n = n} none within first) (refused {doc = d} also less reads broken) = absurd (not_both bytes n d (reads_once bytes) first reads)
-only_output words bytes s t x y (bad_line {n = n} none within first) (ran {doc = d} also less reads good) = absurd (not_both bytes n d (reads_once bytes) first reads)
-only_output words bytes s t x y (refused none within reads broken) (bad_words some) = absurd (some none)
-only_output words bytes s t x y (refused none within reads broken) (too_long also over) = absurd (omega arith)
-only_output words bytes s t x y (refused {doc = d} none within reads broken) (bad_line {n = n} also less first) = absurd (not_both bytes n d (reads_once bytes) first reads)
-only_output words bytes s t x y (refused {doc = d} none within reads broken) (refused {doc = e} also less other more) = (refl, ap (λ (doc : Doc). diagnostics doc.items) (same_doc bytes d e (reads_once bytes) reads other))
-only_output words bytes s t x y (refused {doc = d} none within reads broken) (ran {doc = e} also less other good) = absurd (not_good bytes d e reads other broken good)
-only_output words bytes s t x y (ran none within reads good) (bad_words some) = absurd (some none)
-only_output words bytes s t x y (ran none within reads good) (too_long also over) = absurd (omega arith)
-only_output words bytes s t x y (ran {doc = d} none within reads good) (bad_line {n = n} also less first) = absurd (not_both bytes n d (reads_once bytes) first reads)
-only_output words bytes s t x y (ran {doc = d} none within reads good) (refused {doc = e} also less other broken) = absurd (not_good bytes e d other reads broken good)
-only_output words bytes s t x y (ran {doc = d} none within reads good) (ran {doc = e} also less other fine) = (refl, ap (λ (doc : Doc). report doc.items) (same_doc bytes d e (reads_once bytes) reads other))
+run_within : (bytes : Bytes) → length bytes ≤ document_limit → HasReading (first_forms.Reads bytes) (first_forms.FirstBad bytes) → HasAnswer Run bytes
+run_within bytes within (is_read doc reads only none) = run_read bytes doc within reads (violations doc.items) refl
+run_within bytes within (is_bad line first only none) = (BadLine, bad_line_text line, bad_line line within first)
 
-has_output : (words : List Bytes) (bytes : Bytes) (s : Status) (x : Bytes) → IsOutput words bytes s x → HasOneOutput words bytes
-has_output words bytes s x out = record {
+print_within : (bytes : Bytes) → length bytes ≤ document_limit → HasReading (language.Reads bytes) (language.FirstBad bytes) → HasAnswer Print bytes
+print_within bytes within (is_read doc reads only none) = (Ran, canonical_text doc, ran within record { doc = doc; reads = reads; is_text = refl })
+print_within bytes within (is_bad line first only none) = (BadLine, bad_line_text line, bad_line line within first)
+
+answer_within : (command : Command) (bytes : Bytes) → length bytes ≤ document_limit → HasAnswer command bytes
+answer_within Run bytes within = run_within bytes within (first_reading bytes)
+answer_within Print bytes within = print_within bytes within (language_reading bytes)
+
+pub has_answer : (command : Command) (bytes : Bytes) → HasAnswer command bytes
+has_answer command bytes =
+    elim (cases_lt document_limit (length bytes)) [
+      | inl over ↦ (TooLong, too_long_text, too_long over)
+      | inr within ↦ answer_within command bytes within
+    ]
+
+-- ---- words ask a program for one thing or for nothing
+
+one_command : (p : Program) (words : List Bytes) (c d : Command) → AsksFor p words c → AsksFor p words d → d ≡ c
+one_command Dagrun words Run Run f g = refl
+one_command Dagrun words Run Print f g = absurd g
+one_command Dagrun words Print d f g = absurd f
+one_command Dagc words Run d f g = absurd f
+one_command Dagc words Print Run f g = absurd g
+one_command Dagc words Print Print f g = refl
+
+abbrev IsAsked : Program → List Bytes → Type 0
+IsAsked p words = ((command : Command) × AsksFor p words command) ⊎ HasNoWords p words
+
+no_run : (w : Bytes) (ws : List Bytes) (command : Command) → AsksFor Dagrun (w ∷ ws) command → ⊥
+no_run w ws Run same = absurd (let e : w ∷ ws ≡ [] = same in cc)
+no_run w ws Print asks = asks
+
+-- any words at all ask dagrun for nothing
+pub any_words : (words : List Bytes) → words ≢ [] → HasNoWords Dagrun words
+any_words words some Run same = some same
+any_words words some Print asks = asks
+
+no_word : (command : Command) → AsksFor Dagc [] command → ⊥
+no_word Run asks = asks
+no_word Print same = absurd (let e : [] ≡ codes "print" ∷ [] = same in cc)
+
+two_words : (v w : Bytes) (ws : List Bytes) (command : Command) → AsksFor Dagc (v ∷ w ∷ ws) command → ⊥
+two_words v w ws Run asks = asks
+two_words v w ws Print same = absurd (let e : v ∷ w ∷ ws ≡ codes "print" ∷ [] = same in cc)
+
+other_word : (w : Bytes) → (w ≡ codes "print" → ⊥) → (command : Command) → AsksFor Dagc (w ∷ []) command → ⊥
+other_word w isnt Run asks = asks
+other_word w isnt Print same = isnt (let e : w ∷ [] ≡ codes "print" ∷ [] = same in cc)
+
+decided : {P : Type 0} (b : Bool) → Decides b P → P ⊎ (P → ⊥)
+decided true d = inl (d.0 refl)
+decided false d = inr (λ p. false≢true (d.1 p))
+
+asked_word : (w : Bytes) → IsAsked Dagc (w ∷ [])
+asked_word w =
+    elim (decided (bytes_eq w (codes "print")) (bytes_eq-Decides w (codes "print"))) [
+      | inl same ↦ inl (Print, ap (λ (z : Bytes). z ∷ []) same)
+      | inr isnt ↦ inr (other_word w isnt)
+    ]
+
+asked : (p : Program) (words : List Bytes) → IsAsked p words
+asked Dagrun [] = inl (Run, refl)
+asked Dagrun (w ∷ ws) = inr (no_run w ws)
+asked Dagc [] = inr no_word
+asked Dagc (w ∷ []) = asked_word w
+asked Dagc (v ∷ w ∷ ws) = inr (two_words v w ws)
+
+-- ---- so there is one output
+
+pub only_output : (p : Program) (words : List Bytes) (bytes : Bytes) (s t : Status) (x y : Bytes) → IsOutput p words bytes s x → IsOutput p words bytes t y → (t ≡ s) × (y ≡ x)
+only_output p words bytes s t x y (bad_words none) (bad_words other) = (refl, refl)
+only_output p words bytes s t x y (bad_words none) (answered c asks answer) = absurd (none c asks)
+only_output p words bytes s t x y (answered c asks answer) (bad_words none) = absurd (none c asks)
+only_output p words bytes s t x y (answered {status = q} {text = z} c asks answer) (answered {status = r} {text = w} d also other) =
+    only_answer c bytes q r z w answer (subst (λ (e : Command). IsAnswer e bytes r w) (one_command p words c d asks also) other)
+
+has_output : (p : Program) (words : List Bytes) (bytes : Bytes) (s : Status) (x : Bytes) → IsOutput p words bytes s x → HasOneOutput p words bytes
+has_output p words bytes s x out = record {
   status = s;
   text = x;
   is_output = out;
-  same_status = λ t y other. (only_output words bytes s t x y out other).0;
-  same_text = λ t y other. (only_output words bytes s t x y out other).1;
+  same_status = λ t y other. (only_output p words bytes s t x y out other).0;
+  same_text = λ t y other. (only_output p words bytes s t x y out other).1;
 }
 
-output_read : (bytes : Bytes) (doc : Doc) → length bytes ≤ document_limit → Reads bytes doc → (vs : List Violation) → violations doc.items ≡ vs → HasOneOutput [] bytes
-output_read bytes doc within reads [] is = has_output [] bytes Ran (report doc.items) (ran refl within reads is)
-output_read bytes doc within reads (v ∷ vs) is = has_output [] bytes Refused (diagnostics doc.items) (refused refl within reads (λ none. absurd (let e : v ∷ vs ≡ [] = sym is ∙ none in cc)))
-
-output_within : (bytes : Bytes) → length bytes ≤ document_limit → IsReadOnce bytes ⊎ IsRefusedOnce bytes → HasOneOutput [] bytes
-output_within bytes within (inl r) = output_read bytes r.doc within r.reads (violations r.doc.items) refl
-output_within bytes within (inr r) = has_output [] bytes BadLine (bad_line_text r.line) (bad_line refl within r.first_bad)
-
 pub outputs_once : OneOutput
-outputs_once [] bytes =
-    elim (cases_lt document_limit (length bytes)) [
-      | inl over ↦ has_output [] bytes TooLong too_long_text (too_long refl over)
-      | inr within ↦ output_within bytes within (reads_once bytes)
+outputs_once p words bytes =
+    elim (asked p words) [
+      | inl a ↦ (let one = has_answer a.0 bytes in has_output p words bytes one.0 one.1 (answered a.0 a.1 one.2))
+      | inr none ↦ has_output p words bytes BadWords [] (bad_words none)
     ]
-outputs_once (w ∷ ws) bytes = has_output (w ∷ ws) bytes BadWords [] (bad_words (λ none. absurd (let e : w ∷ ws ≡ [] = none in cc)))
 
--- ---- without words some text is written
+-- ---- each text but a printed one ends with LF
 
 ends_with_line : (front : Bytes) → 0 < length (front ++ line_end ∷ [])
 ends_with_line front = omega (arith, length-append front (line_end ∷ []))
@@ -95,10 +161,21 @@ some_lines (v ∷ vs) broken =
     let first : 0 < length (line_of v) = ends_with_line (head_of v.rule ++ codes " " ++ v.site ++ codes ": " ++ v.detail) in
     omega (arith, length-append (line_of v) (flat_map line_of vs))
 
-pub some_text : (bytes : Bytes) (s : Status) (x : Bytes) → IsOutput [] bytes s x → 0 < length x
-unfolding too_long_text bad_line_text diagnostics report
-some_text bytes s x (bad_words some) = absurd (some refl)
-some_text bytes s x (too_long none over) = ends_with_line (codes "too long")
-some_text bytes s x (bad_line {n = n} none within first) = ends_with_line (codes "bad line " ++ decimal n)
-some_text bytes s x (refused {doc = d} none within reads broken) = some_lines (violations d.items) broken
-some_text bytes s x (ran {doc = d} none within reads good) = ends_with_line ((replies d.items 1 [] (asks_of d.items) ++ codes "cells ") ++ decimal (cell_count d.items))
+refusal_is_some : (command : Command) (bytes x : Bytes) → Refuses command bytes x → 0 < length x
+unfolding diagnostics
+refusal_is_some Run bytes x f = subst (λ (z : Bytes). 0 < length z) (sym f.is_text) (some_lines (violations f.doc.items) f.broken)
+refusal_is_some Print bytes x f = absurd f
+
+pub some_text : (command : Command) (bytes : Bytes) (s : Status) (x : Bytes) → IsAnswer command bytes s x → (s ≡ Ran → ⊥) → 0 < length x
+unfolding too_long_text bad_line_text
+some_text command bytes s x (too_long over) isnt = ends_with_line (codes "too long")
+some_text command bytes s x (bad_line n within first) isnt = ends_with_line (codes "bad line " ++ decimal n)
+some_text command bytes s x (refused {text = z} within refuses) isnt = refusal_is_some command bytes z refuses
+some_text command bytes s x (ran within gives) isnt = absurd (isnt refl)
+
+-- what is given but by printing
+pub report_is_some : (bytes x : Bytes) → Gives Run bytes x → 0 < length x
+unfolding report
+report_is_some bytes x f =
+    let items = f.doc.items in
+    subst (λ (z : Bytes). 0 < length z) (sym f.is_text) (ends_with_line ((replies items 1 [] (asks_of items) ++ codes "cells ") ++ decimal (cell_count items)))

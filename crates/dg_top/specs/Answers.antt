@@ -3,22 +3,23 @@ use Rattle.std.specs.Prelude.{◌≡◌, ◌≢◌, ◌≤◌, ◌+◌, List, []
 use Rattle.std.specs.Io.KnownBytes.{Consumes, IsAtEnd}
 use Rattle.dg_top.specs.declared.status.Status.{Status}
 use Rattle.dg_top.specs.declared.status.Status.TheVariants.{Ran, Refused, TooLong}
+use Rattle.dg_top.specs.declared.command.Command.{Command}
 use Rattle.dg_early.specs.declared.item.Item.{Item}
 use Rattle.dg_lex.specs.Bytes.{Bytes}
 use Rattle.dg_early.specs.Report.{report}
 use Rattle.dg_early.specs.Rules.{violations, diagnostics}
-use Rattle.dg_top.specs.Output.{document_limit, too_long_text, IsOutput}
+use Rattle.dg_top.specs.Output.{document_limit, too_long_text, IsAnswer}
 use Rattle.dg_top.specs.Runs.{TakesExactly}
 
--- the diagnostics of a document, or the report of one without violations
+-- the diagnostics of a document of the first forms, or the report of one without violations
 pub data AnswersItems (items : List Item) : Status → Bytes → Type 0 where
   to_broken : violations items ≢ [] → AnswersItems items Refused (diagnostics items)
   to_good : violations items ≡ [] → AnswersItems items Ran (report items)
 
--- all bytes were taken and this is their output without words, or the byte past the limit was taken
-pub data Answers (left new_left : Option Bytes) : Status → Bytes → Type 0 where
+-- all bytes were taken and this is the answer to them, or the byte past the limit was taken
+pub data Answers (command : Command) (left new_left : Option Bytes) : Status → Bytes → Type 0 where
   to_all : {status : Status} {text : Bytes} → (bytes : Bytes) → Consumes left new_left bytes
-      → IsAtEnd new_left → length bytes ≤ document_limit → IsOutput [] bytes status text
-      → Answers left new_left status text
-  to_long : TakesExactly (document_limit + 1) left new_left → Answers left new_left TooLong
+      → IsAtEnd new_left → length bytes ≤ document_limit → IsAnswer command bytes status text
+      → Answers command left new_left status text
+  to_long : TakesExactly (document_limit + 1) left new_left → Answers command left new_left TooLong
       too_long_text

@@ -1,4 +1,5 @@
 pub mod Status
+pub mod Commands
 pub mod Output
 pub mod Runs
 pub mod Input

@@ -1,12 +1,20 @@
--- The status and the text that belong to words and bytes.
+-- The status and the text that belong to a program, its words and the bytes of its input.
 use Rattle.std.specs.Prelude.{◌≡◌, ◌≢◌, ◌<◌, ◌≤◌, ℕ, List, [], ◌∷◌, ◌++◌, length, codes, decimal}
-use Rattle.dg_top.specs.declared.status.Status.{Status}
-use Rattle.dg_top.specs.declared.status.Status.TheVariants.{Ran, Refused, BadWords, BadLine, TooLong}
-use Rattle.dg_early.specs.declared.document.Doc.{Doc}
 use Rattle.dg_lex.specs.Bytes.{Bytes, line_end}
-use Rattle.dg_early.specs.Reading.{FirstBad, Reads}
+use Rattle.dg_early.specs.declared.document.Doc.{Doc as FirstDoc}
+use Rattle.dg_early.specs.Reading as first_forms
 use Rattle.dg_early.specs.Report.{report}
 use Rattle.dg_early.specs.Rules.{violations, diagnostics}
+use Rattle.dg_decl.specs.declared.document.Doc.{Doc}
+use Rattle.dg_decl.specs.Reading as language
+use Rattle.dg_decl.specs.Canonical.{canonical_text}
+use Rattle.dg_top.specs.declared.status.Status.{Status}
+use Rattle.dg_top.specs.declared.status.Status.TheVariants.{Ran, Refused, BadWords, BadLine}
+use Rattle.dg_top.specs.declared.status.Status.TheVariants.{TooLong}
+use Rattle.dg_top.specs.declared.command.Program.{Program}
+use Rattle.dg_top.specs.declared.command.Command.{Command}
+use Rattle.dg_top.specs.declared.command.Command.TheVariants.{Run, Print}
+use Rattle.dg_top.specs.Commands.{AsksFor, HasNoWords}
 
 -- the most bytes of a document
 abbrev pub document_limit : ℕ
@@ -18,28 +26,76 @@ too_long_text = codes "too long" ++ line_end ∷ []
 unfoldable pub bad_line_text : ℕ → Bytes
 bad_line_text n = codes "bad line " ++ decimal n ++ line_end ∷ []
 
--- These words and bytes have this status and text. The first case that fits is the only one: words
--- that the program doesn't have, then too many bytes, then a bad line, then violations, and then
--- the report of the document.
-pub data IsOutput (words : List Bytes) (bytes : Bytes) : Status → Bytes → Type 0 where
-  bad_words : words ≢ [] → IsOutput words bytes BadWords []
-  too_long : words ≡ [] → document_limit < length bytes → IsOutput words bytes TooLong too_long_text
-  bad_line : {n : ℕ} → words ≡ [] → length bytes ≤ document_limit → FirstBad bytes n
-      → IsOutput words bytes BadLine (bad_line_text n)
-  refused : {doc : Doc} → words ≡ [] → length bytes ≤ document_limit → Reads bytes doc
-      → violations doc.items ≢ [] → IsOutput words bytes Refused (diagnostics doc.items)
-  ran : {doc : Doc} → words ≡ [] → length bytes ≤ document_limit → Reads bytes doc
-      → violations doc.items ≡ [] → IsOutput words bytes Ran (report doc.items)
+-- ---- a document of the first forms, which a run of today reads
 
--- there is one status and text for these words and bytes, and no other
-pub record HasOneOutput (words : List Bytes) (bytes : Bytes) : Type 0 where
+-- it breaks rules, and this text is the lines of its violations
+pub record IsBroken (bytes text : Bytes) : Type 0 where
+  pub doc : FirstDoc
+  pub reads : first_forms.Reads bytes doc
+  pub broken : violations doc.items ≢ []
+  pub is_text : text ≡ diagnostics doc.items
+
+-- it breaks none, and this text is its report
+pub record IsReported (bytes text : Bytes) : Type 0 where
+  pub doc : FirstDoc
+  pub reads : first_forms.Reads bytes doc
+  pub good : violations doc.items ≡ []
+  pub is_text : text ≡ report doc.items
+
+-- ---- a document of the whole language
+
+-- this text is its canonical text
+pub record IsPrinted (bytes text : Bytes) : Type 0 where
+  pub doc : Doc
+  pub reads : language.Reads bytes doc
+  pub is_text : text ≡ canonical_text doc
+
+-- ---- what is read for a command, and what it gives
+
+-- line n of a document is the first bad one
+abbrev pub HasFirstBad : Command → Bytes → ℕ → Type 0
+HasFirstBad Run bytes n = first_forms.FirstBad bytes n
+HasFirstBad Print bytes n = language.FirstBad bytes n
+
+-- a document is read, and is refused with this text
+abbrev pub Refuses : Command → Bytes → Bytes → Type 0
+Refuses Run bytes text = IsBroken bytes text
+Refuses Print bytes text = ⊥
+
+-- a document is read, and gives this text
+abbrev pub Gives : Command → Bytes → Bytes → Type 0
+Gives Run bytes text = IsReported bytes text
+Gives Print bytes text = IsPrinted bytes text
+
+-- A command over these bytes has this status and text. The first case that fits is the only one:
+-- too many bytes, then a bad line, then a document that is refused, and then one that isn't.
+pub data IsAnswer (command : Command) (bytes : Bytes) : Status → Bytes → Type 0 where
+  too_long : document_limit < length bytes → IsAnswer command bytes TooLong too_long_text
+  bad_line : (n : ℕ) → length bytes ≤ document_limit → HasFirstBad command bytes n
+      → IsAnswer command bytes BadLine (bad_line_text n)
+  refused : {text : Bytes} → length bytes ≤ document_limit → Refuses command bytes text
+      → IsAnswer command bytes Refused text
+  ran : {text : Bytes} → length bytes ≤ document_limit → Gives command bytes text
+      → IsAnswer command bytes Ran text
+
+-- A program with these words, over these bytes, has this status and text: words that ask for
+-- nothing come first.
+pub data IsOutput (program : Program) (words : List Bytes) (bytes : Bytes) : Status → Bytes
+    → Type 0 where
+  bad_words : HasNoWords program words → IsOutput program words bytes BadWords []
+  answered : {status : Status} {text : Bytes} → (command : Command) → AsksFor program words command
+      → IsAnswer command bytes status text → IsOutput program words bytes status text
+
+-- there is one status and text for this program, these words and these bytes, and no other
+pub record HasOneOutput (program : Program) (words : List Bytes) (bytes : Bytes) : Type 0 where
   pub status : Status
   pub text : Bytes
-  pub is_output : IsOutput words bytes status text
-  pub same_status : (other : Status) (other_text : Bytes) → IsOutput words bytes other other_text
-      → other ≡ status
-  pub same_text : (other : Status) (other_text : Bytes) → IsOutput words bytes other other_text
-      → other_text ≡ text
+  pub is_output : IsOutput program words bytes status text
+  pub same_status : (other : Status) (other_text : Bytes)
+      → IsOutput program words bytes other other_text → other ≡ status
+  pub same_text : (other : Status) (other_text : Bytes)
+      → IsOutput program words bytes other other_text → other_text ≡ text
 
 abbrev pub OneOutput : Type 0
-OneOutput = (words : List Bytes) (bytes : Bytes) → HasOneOutput words bytes
+OneOutput = (program : Program) (words : List Bytes) (bytes : Bytes)
+    → HasOneOutput program words bytes

@@ -1,12 +1,18 @@
 //! Documents from bytes to replies: what the programs do, over any source and sink.
 #![tactic(auto)]
 
+mod answer;
+mod command;
 mod input;
 mod output;
+mod perform;
+mod printing;
 mod run;
+mod running;
 mod status;
 
-pub use run::{one_output, run_top};
+pub use command::{Command, Program};
+pub use run::{check_top, one_output, run_top};
 pub use status::Status;
 
 #[cfg(test)]

@@ -1,4 +1,4 @@
-use crate::{Status, one_output, run_top};
+use crate::{Status, check_top, one_output, run_top};
 use dg_io::{MemSink, MemSource, QuietGate};
 use std::alloc::{AllocError, Global};
 use std::test::Fail;
@@ -135,6 +135,18 @@ fn there_are_no_words(rt: HostRuntime) -> Result<(), Fail> {
     let (status, sink) = run(rt.alloc(), &words, FIRST, calm(4096))?;
     assert_eq!(rt; status, Status::BadWords);
     assert_eq!(rt; sink.bytes(), b"".as_slice());
+    Ok(())
+}
+
+#[test]
+fn a_document_is_printed_however_the_bytes_come(rt: HostRuntime) -> Result<(), Fail> {
+    let words = [String::from_str(rt.alloc(), "print")?];
+    let text = b"// A scope.\n\nscope   S\n".as_slice().to_vec(rt.alloc())?;
+    let mut source = MemSource::new(text, 1, Vec::new(rt.alloc()));
+    let mut sink = MemSink::with_room(rt.alloc(), 64, Vec::new(rt.alloc()))?;
+    let status = check_top(rt.alloc(), &words, &mut source, &mut sink);
+    assert_eq!(rt; status, Status::Ran);
+    assert_eq!(rt; sink.bytes(), b"scope S\n".as_slice());
     Ok(())
 }
 

@@ -3,8 +3,8 @@ use Rattle.std.proofs.lemmas.Bool.{eqb-true, eqb-false}
 use Rattle.dg_early.specs.declared.item.Item.{Item}
 use Rattle.dg_top.specs.Answers.{AnswersItems}
 use Rattle.dg_top.specs.declared.status.Status.TheVariants.{Ran, Refused}
-use Rattle.dg_top.proofs.RunLemmas.{answer_good, answer_broken}
-use Rattle.dg_top.proofs.run.answer_to_items.Goals as goal
+use Rattle.dg_top.proofs.AnswerLemmas.{answer_good, answer_broken}
+use Rattle.dg_top.proofs.running.answer_items.Goals as goal
 
 pub returns-then-is_empty : goal.returns-then-is_empty
 returns-then-is_empty c =

@@ -1,0 +1,50 @@
+-- Answers to bytes.
+use Rattle.std.proofs.Common.{◌≡◌, ◌≤◌, ◌+◌, ℕ, List, length, Option, refl, sym, ap, subst, ◌∙◌}
+use Rattle.std.specs.Prelude.{◌≢◌}
+use Rattle.std.specs.List.{flat_map}
+use Rattle.std.proofs.lemmas.List.{nil_from_length}
+use Rattle.dg_lex.specs.Bytes.{Bytes}
+use Rattle.dg_early.specs.declared.document.Doc.{Doc as FirstDoc}
+use Rattle.dg_early.specs.declared.item.Item.{Item}
+use Rattle.dg_early.specs.declared.rules.violation.Violation.{Violation}
+use Rattle.dg_early.specs.Reading as first_forms
+use Rattle.dg_early.specs.Report.{report}
+use Rattle.dg_early.specs.Rules.{violations, line_of, diagnostics}
+use Rattle.dg_decl.specs.declared.document.Doc.{Doc}
+use Rattle.dg_decl.specs.Reading as language
+use Rattle.dg_decl.specs.Canonical.{canonical_text}
+use Rattle.dg_top.specs.declared.status.Status.{Status}
+use Rattle.dg_top.specs.declared.status.Status.TheVariants.{Ran, Refused, BadLine, TooLong}
+use Rattle.dg_top.specs.declared.command.Command.{Command}
+use Rattle.dg_top.specs.declared.command.Command.TheVariants.{Run, Print}
+use Rattle.dg_top.specs.Output.{document_limit, too_long_text, bad_line_text, HasFirstBad, IsAnswer, bad_line, refused, ran}
+use Rattle.dg_top.specs.Runs.{TakesExactly}
+use Rattle.dg_top.specs.Answers.{Answers, to_long, AnswersItems, to_broken, to_good}
+
+-- the report where no violation was found, and the lines of those that were found
+pub answer_good : (items : List Item) (vs : List Violation) (text : Bytes) → vs ≡ violations items → length vs ≡ 0 → text ≡ report items → AnswersItems items Ran text
+answer_good items vs text found none is = subst (λ (x : Bytes). AnswersItems items Ran x) (sym is) (to_good (sym found ∙ nil_from_length vs none))
+
+pub answer_broken : (items : List Item) (vs : List Violation) (text : Bytes) → vs ≡ violations items → length vs ≢ 0 → text ≡ flat_map line_of vs → AnswersItems items Refused text
+unfolding diagnostics
+answer_broken items vs text found some is =
+    subst (λ (x : Bytes). AnswersItems items Refused x) (sym (is ∙ ap (flat_map line_of) found)) (to_broken (λ none. some (ap length (found ∙ none))))
+
+-- the answer to the items of a document of the first forms
+pub answer_read : (bytes : Bytes) (doc : FirstDoc) (items : List Item) (status : Status) (text : Bytes) → length bytes ≤ document_limit → first_forms.Reads bytes doc → items ≡ doc.items → AnswersItems items status text → IsAnswer Run bytes status text
+answer_read bytes doc items status text within reads same answers = of_doc bytes doc status text within reads (subst (λ (xs : List Item). AnswersItems xs status text) same answers)
+  where
+    of_doc : (bytes : Bytes) (doc : FirstDoc) (status : Status) (text : Bytes) → length bytes ≤ document_limit → first_forms.Reads bytes doc → AnswersItems doc.items status text → IsAnswer Run bytes status text
+    of_doc bytes doc status text within reads (to_broken broken) = refused within record { doc = doc; reads = reads; broken = broken; is_text = refl }
+    of_doc bytes doc status text within reads (to_good good) = ran within record { doc = doc; reads = reads; good = good; is_text = refl }
+
+pub answer_printed : (bytes : Bytes) (doc : Doc) (text : Bytes) → length bytes ≤ document_limit → language.Reads bytes doc → text ≡ canonical_text doc → IsAnswer Print bytes Ran text
+answer_printed bytes doc text within reads is = ran within record { doc = doc; reads = reads; is_text = is }
+
+pub answer_bad : (command : Command) (bytes : Bytes) (line : ℕ) (status : Status) (text : Bytes) → length bytes ≤ document_limit → HasFirstBad command bytes line → status ≡ BadLine → text ≡ bad_line_text line → IsAnswer command bytes status text
+answer_bad command bytes line status text within first same is =
+    subst (λ (s : Status). IsAnswer command bytes s text) (sym same) (subst (λ (x : Bytes). IsAnswer command bytes BadLine x) (sym is) (bad_line line within first))
+
+pub answer_long : (command : Command) (left new_left : Option Bytes) (status : Status) (text : Bytes) → TakesExactly (document_limit + 1) left new_left → status ≡ TooLong → text ≡ too_long_text → Answers command left new_left status text
+answer_long command left new_left status text takes same is =
+    subst (λ (s : Status). Answers command left new_left s text) (sym same) (subst (λ (x : Bytes). Answers command left new_left TooLong x) (sym is) (to_long takes))
