@@ -1,5 +1,5 @@
 //! `dagc`: reads a document from its standard input, and writes what its word asks for: `print` its
-//! canonical text.
+//! canonical text, `check` its diagnostics, or `accepted` where there are none.
 #![tactic(auto)]
 
 use dg_io::{StdSink, StdSource};

@@ -1,32 +1,34 @@
 -- Answers to bytes.
-use Rattle.std.proofs.Common.{◌≡◌, ◌≤◌, ◌+◌, ℕ, List, length, Option, refl, sym, ap, subst, ◌∙◌}
+use Rattle.std.proofs.Common.{◌≡◌, ◌≤◌, [], ◌+◌, ℕ, List, length, Option, refl, sym, ap, subst, ◌∙◌}
 use Rattle.std.specs.Prelude.{◌≢◌}
 use Rattle.std.specs.List.{flat_map}
 use Rattle.std.proofs.lemmas.List.{nil_from_length}
 use Rattle.dg_lex.specs.Bytes.{Bytes}
 use Rattle.dg_early.specs.declared.document.Doc.{Doc as FirstDoc}
 use Rattle.dg_early.specs.declared.item.Item.{Item}
-use Rattle.dg_early.specs.declared.rules.violation.Violation.{Violation}
+use Rattle.dg_early.specs.declared.rules.violation.Violation.{Violation as FirstViolation}
 use Rattle.dg_early.specs.Reading as first_forms
 use Rattle.dg_early.specs.Report.{report}
-use Rattle.dg_early.specs.Rules.{violations, line_of, diagnostics}
+use Rattle.dg_early.specs.Rules.{violations, line_of, diagnostics as first_diagnostics}
 use Rattle.dg_decl.specs.declared.document.Doc.{Doc}
 use Rattle.dg_decl.specs.Reading as language
+use Rattle.dg_decl.specs.declared.violation.Violation.{Violation}
 use Rattle.dg_decl.specs.Canonical.{canonical_text}
+use Rattle.dg_decl.specs.Diagnostics.{diagnostics}
 use Rattle.dg_top.specs.declared.status.Status.{Status}
 use Rattle.dg_top.specs.declared.status.Status.TheVariants.{Ran, Refused, BadLine, TooLong}
 use Rattle.dg_top.specs.declared.command.Command.{Command}
-use Rattle.dg_top.specs.declared.command.Command.TheVariants.{Run, Print}
-use Rattle.dg_top.specs.Output.{document_limit, too_long_text, bad_line_text, HasFirstBad, IsAnswer, bad_line, refused, ran}
+use Rattle.dg_top.specs.declared.command.Command.TheVariants.{Run, Print, Check}
+use Rattle.dg_top.specs.Output.{document_limit, too_long_text, bad_line_text, accepted_text, lines_of, HasFirstBad, IsAnswer, bad_line, refused, ran}
 use Rattle.dg_top.specs.Runs.{TakesExactly}
-use Rattle.dg_top.specs.Answers.{Answers, to_long, AnswersItems, to_broken, to_good}
+use Rattle.dg_top.specs.Answers.{Answers, to_long, AnswersItems, to_broken, to_good, AnswersDoc, to_refused, to_accepted}
 
 -- the report where no violation was found, and the lines of those that were found
-pub answer_good : (items : List Item) (vs : List Violation) (text : Bytes) → vs ≡ violations items → length vs ≡ 0 → text ≡ report items → AnswersItems items Ran text
+pub answer_good : (items : List Item) (vs : List FirstViolation) (text : Bytes) → vs ≡ violations items → length vs ≡ 0 → text ≡ report items → AnswersItems items Ran text
 answer_good items vs text found none is = subst (λ (x : Bytes). AnswersItems items Ran x) (sym is) (to_good (sym found ∙ nil_from_length vs none))
 
-pub answer_broken : (items : List Item) (vs : List Violation) (text : Bytes) → vs ≡ violations items → length vs ≢ 0 → text ≡ flat_map line_of vs → AnswersItems items Refused text
-unfolding diagnostics
+pub answer_broken : (items : List Item) (vs : List FirstViolation) (text : Bytes) → vs ≡ violations items → length vs ≢ 0 → text ≡ flat_map line_of vs → AnswersItems items Refused text
+unfolding first_diagnostics
 answer_broken items vs text found some is =
     subst (λ (x : Bytes). AnswersItems items Refused x) (sym (is ∙ ap (flat_map line_of) found)) (to_broken (λ none. some (ap length (found ∙ none))))
 
@@ -48,3 +50,16 @@ answer_bad command bytes line status text within first same is =
 pub answer_long : (command : Command) (left new_left : Option Bytes) (status : Status) (text : Bytes) → TakesExactly (document_limit + 1) left new_left → status ≡ TooLong → text ≡ too_long_text → Answers command left new_left status text
 answer_long command left new_left status text takes same is =
     subst (λ (s : Status). Answers command left new_left s text) (sym same) (subst (λ (x : Bytes). Answers command left new_left TooLong x) (sym is) (to_long takes))
+
+-- ---- the answer to a document that is checked
+
+pub answer_refused : (doc : Doc) (vs : List Violation) (text : Bytes) → vs ≡ diagnostics doc → vs ≢ [] → text ≡ lines_of vs → AnswersDoc doc Refused text
+answer_refused doc vs text found some is =
+    subst (λ (x : Bytes). AnswersDoc doc Refused x) (sym (is ∙ ap lines_of found)) (to_refused (λ none. some (found ∙ none)))
+
+pub answer_accepted : (doc : Doc) (vs : List Violation) (text : Bytes) → vs ≡ diagnostics doc → vs ≡ [] → text ≡ accepted_text → AnswersDoc doc Ran text
+answer_accepted doc vs text found none is = subst (λ (x : Bytes). AnswersDoc doc Ran x) (sym is) (to_accepted (sym found ∙ none))
+
+pub answer_checked : (bytes : Bytes) (doc : Doc) (status : Status) (text : Bytes) → length bytes ≤ document_limit → language.Reads bytes doc → AnswersDoc doc status text → IsAnswer Check bytes status text
+answer_checked bytes doc status text within reads (to_refused broken) = refused within record { doc = doc; reads = reads; broken = broken; is_text = refl }
+answer_checked bytes doc status text within reads (to_accepted accepted) = ran within record { doc = doc; reads = reads; accepted = accepted; is_text = refl }

@@ -3,3 +3,4 @@ pub mod ReadingLemmas
 pub mod OutputLemmas
 pub mod RunLemmas
 pub mod AnswerLemmas
+pub mod StageLemmas

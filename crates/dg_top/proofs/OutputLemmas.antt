@@ -10,19 +10,23 @@ use Rattle.std.proofs.lemmas.Slice.Eq.{bytes_eq-Decides}
 use Rattle.dg_lex.specs.Bytes.{Bytes, line_end}
 use Rattle.dg_early.specs.declared.document.Doc.{Doc as FirstDoc}
 use Rattle.dg_early.specs.Reading as first_forms
-use Rattle.dg_early.specs.declared.rules.violation.Violation.{Violation}
+use Rattle.dg_early.specs.declared.rules.violation.Violation.{Violation as FirstViolation}
 use Rattle.dg_early.specs.Report.{replies, asks_of, cell_count, report}
-use Rattle.dg_early.specs.Rules.{violations, head_of, line_of, diagnostics}
+use Rattle.dg_early.specs.Rules.{violations, head_of as first_head, line_of as first_line, diagnostics as first_diagnostics}
 use Rattle.dg_decl.specs.Reading as language
+use Rattle.dg_decl.specs.declared.document.Doc.{Doc}
+use Rattle.dg_decl.specs.declared.violation.Violation.{Violation}
 use Rattle.dg_decl.specs.Canonical.{canonical_text}
+use Rattle.dg_decl.specs.Diagnostics.{diagnostics}
+use Rattle.dg_diag.specs.Lines.{head_of, detail_text, line_of}
 use Rattle.dg_top.specs.declared.status.Status.{Status}
 use Rattle.dg_top.specs.declared.status.Status.TheVariants.{Ran, Refused, BadWords, BadLine, TooLong}
 use Rattle.dg_top.specs.declared.command.Program.{Program}
 use Rattle.dg_top.specs.declared.command.Program.TheVariants.{Dagrun, Dagc}
 use Rattle.dg_top.specs.declared.command.Command.{Command}
-use Rattle.dg_top.specs.declared.command.Command.TheVariants.{Run, Print}
+use Rattle.dg_top.specs.declared.command.Command.TheVariants.{Run, Print, Check}
 use Rattle.dg_top.specs.Commands.{AsksFor, HasNoWords}
-use Rattle.dg_top.specs.Output.{document_limit, too_long_text, bad_line_text, Refuses, Gives, IsAnswer, too_long, bad_line, refused, ran, IsOutput, bad_words, answered, HasOneOutput, OneOutput}
+use Rattle.dg_top.specs.Output.{document_limit, too_long_text, bad_line_text, accepted_text, lines_of, Refuses, Gives, IsAnswer, too_long, bad_line, refused, ran, IsOutput, bad_words, answered, HasOneOutput, OneOutput}
 use Rattle.dg_top.proofs.ReadingLemmas.{HasReading, is_read, is_bad, first_reading, language_reading, one_first_bad, one_refusal, one_given, bad_isnt_refused, bad_isnt_given, refused_isnt_given}
 
 -- ---- a command has one answer to bytes
@@ -49,10 +53,10 @@ only_answer command bytes s t x y (ran {text = z} within gives) (ran {text = w} 
 abbrev HasAnswer : Command → Bytes → Type 0
 HasAnswer command bytes = (status : Status) × (text : Bytes) × IsAnswer command bytes status text
 
-run_read : (bytes : Bytes) (doc : FirstDoc) → length bytes ≤ document_limit → first_forms.Reads bytes doc → (vs : List Violation) → violations doc.items ≡ vs → HasAnswer Run bytes
+run_read : (bytes : Bytes) (doc : FirstDoc) → length bytes ≤ document_limit → first_forms.Reads bytes doc → (vs : List FirstViolation) → violations doc.items ≡ vs → HasAnswer Run bytes
 run_read bytes doc within reads [] is = (Ran, report doc.items, ran within record { doc = doc; reads = reads; good = is; is_text = refl })
 run_read bytes doc within reads (v ∷ vs) is =
-    (Refused, diagnostics doc.items, refused within record { doc = doc; reads = reads; broken = λ none. absurd (let e : v ∷ vs ≡ [] = sym is ∙ none in cc); is_text = refl })
+    (Refused, first_diagnostics doc.items, refused within record { doc = doc; reads = reads; broken = λ none. absurd (let e : v ∷ vs ≡ [] = sym is ∙ none in cc); is_text = refl })
 
 run_within : (bytes : Bytes) → length bytes ≤ document_limit → HasReading (first_forms.Reads bytes) (first_forms.FirstBad bytes) → HasAnswer Run bytes
 run_within bytes within (is_read doc reads only none) = run_read bytes doc within reads (violations doc.items) refl
@@ -62,9 +66,19 @@ print_within : (bytes : Bytes) → length bytes ≤ document_limit → HasReadin
 print_within bytes within (is_read doc reads only none) = (Ran, canonical_text doc, ran within record { doc = doc; reads = reads; is_text = refl })
 print_within bytes within (is_bad line first only none) = (BadLine, bad_line_text line, bad_line line within first)
 
+check_read : (bytes : Bytes) (doc : Doc) → length bytes ≤ document_limit → language.Reads bytes doc → (vs : List Violation) → diagnostics doc ≡ vs → HasAnswer Check bytes
+check_read bytes doc within reads [] is = (Ran, accepted_text, ran within record { doc = doc; reads = reads; accepted = is; is_text = refl })
+check_read bytes doc within reads (v ∷ vs) is =
+    (Refused, lines_of (diagnostics doc), refused within record { doc = doc; reads = reads; broken = λ none. absurd (let e : v ∷ vs ≡ [] = sym is ∙ none in cc); is_text = refl })
+
+check_within : (bytes : Bytes) → length bytes ≤ document_limit → HasReading (language.Reads bytes) (language.FirstBad bytes) → HasAnswer Check bytes
+check_within bytes within (is_read doc reads only none) = check_read bytes doc within reads (diagnostics doc) refl
+check_within bytes within (is_bad line first only none) = (BadLine, bad_line_text line, bad_line line within first)
+
 answer_within : (command : Command) (bytes : Bytes) → length bytes ≤ document_limit → HasAnswer command bytes
 answer_within Run bytes within = run_within bytes within (first_reading bytes)
 answer_within Print bytes within = print_within bytes within (language_reading bytes)
+answer_within Check bytes within = check_within bytes within (language_reading bytes)
 
 pub has_answer : (command : Command) (bytes : Bytes) → HasAnswer command bytes
 has_answer command bytes =
@@ -75,13 +89,29 @@ has_answer command bytes =
 
 -- ---- words ask a program for one thing or for nothing
 
+first_word : List Bytes → Bytes
+first_word [] = []
+first_word (w ∷ ws) = w
+
+print_isnt_check : (words : List Bytes) → words ≡ codes "print" ∷ [] → words ≡ codes "check" ∷ [] → ⊥
+unfolding first_word
+print_isnt_check words f g =
+    let same : codes "print" ≡ codes "check" = ap first_word (sym f ∙ g) in
+    false≢true ((bytes_eq-Decides (codes "print") (codes "check")).1 same)
+
 one_command : (p : Program) (words : List Bytes) (c d : Command) → AsksFor p words c → AsksFor p words d → d ≡ c
 one_command Dagrun words Run Run f g = refl
 one_command Dagrun words Run Print f g = absurd g
+one_command Dagrun words Run Check f g = absurd g
 one_command Dagrun words Print d f g = absurd f
+one_command Dagrun words Check d f g = absurd f
 one_command Dagc words Run d f g = absurd f
 one_command Dagc words Print Run f g = absurd g
 one_command Dagc words Print Print f g = refl
+one_command Dagc words Print Check f g = absurd (print_isnt_check words f g)
+one_command Dagc words Check Run f g = absurd g
+one_command Dagc words Check Print f g = absurd (print_isnt_check words g f)
+one_command Dagc words Check Check f g = refl
 
 abbrev IsAsked : Program → List Bytes → Type 0
 IsAsked p words = ((command : Command) × AsksFor p words command) ⊎ HasNoWords p words
@@ -89,40 +119,46 @@ IsAsked p words = ((command : Command) × AsksFor p words command) ⊎ HasNoWord
 no_run : (w : Bytes) (ws : List Bytes) (command : Command) → AsksFor Dagrun (w ∷ ws) command → ⊥
 no_run w ws Run same = absurd (let e : w ∷ ws ≡ [] = same in cc)
 no_run w ws Print asks = asks
+no_run w ws Check asks = asks
 
 -- any words at all ask dagrun for nothing
 pub any_words : (words : List Bytes) → words ≢ [] → HasNoWords Dagrun words
 any_words words some Run same = some same
 any_words words some Print asks = asks
+any_words words some Check asks = asks
 
 no_word : (command : Command) → AsksFor Dagc [] command → ⊥
 no_word Run asks = asks
 no_word Print same = absurd (let e : [] ≡ codes "print" ∷ [] = same in cc)
+no_word Check same = absurd (let e : [] ≡ codes "check" ∷ [] = same in cc)
 
 two_words : (v w : Bytes) (ws : List Bytes) (command : Command) → AsksFor Dagc (v ∷ w ∷ ws) command → ⊥
 two_words v w ws Run asks = asks
 two_words v w ws Print same = absurd (let e : v ∷ w ∷ ws ≡ codes "print" ∷ [] = same in cc)
+two_words v w ws Check same = absurd (let e : v ∷ w ∷ ws ≡ codes "check" ∷ [] = same in cc)
 
-other_word : (w : Bytes) → (w ≡ codes "print" → ⊥) → (command : Command) → AsksFor Dagc (w ∷ []) command → ⊥
-other_word w isnt Run asks = asks
-other_word w isnt Print same = isnt (let e : w ∷ [] ≡ codes "print" ∷ [] = same in cc)
+other_word : (w : Bytes) → (w ≡ codes "print" → ⊥) → (w ≡ codes "check" → ⊥) → (command : Command) → AsksFor Dagc (w ∷ []) command → ⊥
+other_word w print check Run asks = asks
+other_word w print check Print same = print (let e : w ∷ [] ≡ codes "print" ∷ [] = same in cc)
+other_word w print check Check same = check (let e : w ∷ [] ≡ codes "check" ∷ [] = same in cc)
 
 decided : {P : Type 0} (b : Bool) → Decides b P → P ⊎ (P → ⊥)
 decided true d = inl (d.0 refl)
 decided false d = inr (λ p. false≢true (d.1 p))
 
-asked_word : (w : Bytes) → IsAsked Dagc (w ∷ [])
-asked_word w =
-    elim (decided (bytes_eq w (codes "print")) (bytes_eq-Decides w (codes "print"))) [
-      | inl same ↦ inl (Print, ap (λ (z : Bytes). z ∷ []) same)
-      | inr isnt ↦ inr (other_word w isnt)
-    ]
+is_word : (w v : Bytes) → (w ≡ v) ⊎ (w ≡ v → ⊥)
+is_word w v = decided (bytes_eq w v) (bytes_eq-Decides w v)
+
+asked_word : (w : Bytes) → (w ≡ codes "print") ⊎ (w ≡ codes "print" → ⊥) → (w ≡ codes "check") ⊎ (w ≡ codes "check" → ⊥) → IsAsked Dagc (w ∷ [])
+asked_word w (inl print) check = inl (Print, ap (λ (z : Bytes). z ∷ []) print)
+asked_word w (inr isnt) (inl check) = inl (Check, ap (λ (z : Bytes). z ∷ []) check)
+asked_word w (inr isnt) (inr either) = inr (other_word w isnt either)
 
 asked : (p : Program) (words : List Bytes) → IsAsked p words
 asked Dagrun [] = inl (Run, refl)
 asked Dagrun (w ∷ ws) = inr (no_run w ws)
 asked Dagc [] = inr no_word
-asked Dagc (w ∷ []) = asked_word w
+asked Dagc (w ∷ []) = asked_word w (is_word w (codes "print")) (is_word w (codes "check"))
 asked Dagc (v ∷ w ∷ ws) = inr (two_words v w ws)
 
 -- ---- so there is one output
@@ -155,16 +191,25 @@ outputs_once p words bytes =
 ends_with_line : (front : Bytes) → 0 < length (front ++ line_end ∷ [])
 ends_with_line front = omega (arith, length-append front (line_end ∷ []))
 
-some_lines : (vs : List Violation) → vs ≢ [] → 0 < length (flat_map line_of vs)
+some_first_lines : (vs : List FirstViolation) → vs ≢ [] → 0 < length (flat_map first_line vs)
+some_first_lines [] broken = absurd (broken refl)
+some_first_lines (v ∷ vs) broken =
+    let first : 0 < length (first_line v) = ends_with_line (first_head v.rule ++ codes " " ++ v.site ++ codes ": " ++ v.detail) in
+    omega (arith, length-append (first_line v) (flat_map first_line vs))
+
+some_line : (v : Violation) → 0 < length (line_of v)
+unfolding line_of
+some_line v = ends_with_line (head_of v.rule ++ codes " " ++ v.site ++ detail_text v.detail)
+
+some_lines : (vs : List Violation) → vs ≢ [] → 0 < length (lines_of vs)
 some_lines [] broken = absurd (broken refl)
-some_lines (v ∷ vs) broken =
-    let first : 0 < length (line_of v) = ends_with_line (head_of v.rule ++ codes " " ++ v.site ++ codes ": " ++ v.detail) in
-    omega (arith, length-append (line_of v) (flat_map line_of vs))
+some_lines (v ∷ vs) broken = omega (arith, some_line v, length-append (line_of v) (lines_of vs))
 
 refusal_is_some : (command : Command) (bytes x : Bytes) → Refuses command bytes x → 0 < length x
-unfolding diagnostics
-refusal_is_some Run bytes x f = subst (λ (z : Bytes). 0 < length z) (sym f.is_text) (some_lines (violations f.doc.items) f.broken)
+unfolding first_diagnostics
+refusal_is_some Run bytes x f = subst (λ (z : Bytes). 0 < length z) (sym f.is_text) (some_first_lines (violations f.doc.items) f.broken)
 refusal_is_some Print bytes x f = absurd f
+refusal_is_some Check bytes x f = subst (λ (z : Bytes). 0 < length z) (sym f.is_text) (some_lines (diagnostics f.doc) f.broken)
 
 pub some_text : (command : Command) (bytes : Bytes) (s : Status) (x : Bytes) → IsAnswer command bytes s x → (s ≡ Ran → ⊥) → 0 < length x
 unfolding too_long_text bad_line_text
@@ -179,3 +224,7 @@ unfolding report
 report_is_some bytes x f =
     let items = f.doc.items in
     subst (λ (z : Bytes). 0 < length z) (sym f.is_text) (ends_with_line ((replies items 1 [] (asks_of items) ++ codes "cells ") ++ decimal (cell_count items)))
+
+pub accepted_is_some : (bytes x : Bytes) → Gives Check bytes x → 0 < length x
+unfolding accepted_text
+accepted_is_some bytes x f = subst (λ (z : Bytes). 0 < length z) (sym f.is_text) (ends_with_line (codes "accepted"))

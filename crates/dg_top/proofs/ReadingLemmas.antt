@@ -5,14 +5,15 @@ use Rattle.dg_early.specs.declared.document.Doc.{Doc as FirstDoc}
 use Rattle.dg_early.specs.Reading as first_forms
 use Rattle.dg_early.proofs.OneReading as first_law
 use Rattle.dg_early.specs.Report.{report}
-use Rattle.dg_early.specs.Rules.{violations, diagnostics}
+use Rattle.dg_early.specs.Rules.{violations, diagnostics as first_diagnostics}
 use Rattle.dg_decl.specs.declared.document.Doc.{Doc}
 use Rattle.dg_decl.specs.Reading as language
 use Rattle.dg_decl.proofs.OneReading as law
 use Rattle.dg_decl.specs.Canonical.{canonical_text}
+use Rattle.dg_decl.specs.Diagnostics.{diagnostics}
 use Rattle.dg_top.specs.declared.command.Command.{Command}
-use Rattle.dg_top.specs.declared.command.Command.TheVariants.{Run, Print}
-use Rattle.dg_top.specs.Output.{HasFirstBad, Refuses, Gives}
+use Rattle.dg_top.specs.declared.command.Command.TheVariants.{Run, Print, Check}
+use Rattle.dg_top.specs.Output.{lines_of, HasFirstBad, Refuses, Gives}
 
 -- one document is read and no line is bad, or one line is the first bad one and no document is read
 pub data HasReading {D : Type 0} (Reads : D → Type 0) (FirstBad : ℕ → Type 0) : Type 0 where
@@ -65,24 +66,30 @@ language_not_both bytes n d f g = not_both (language.Reads bytes) (language.Firs
 
 pub one_first_bad : (command : Command) (bytes : Bytes) (m n : ℕ) → HasFirstBad command bytes m → HasFirstBad command bytes n → n ≡ m
 one_first_bad Run bytes m n f g = same_line (first_forms.Reads bytes) (first_forms.FirstBad bytes) m n (first_reading bytes) f g
+one_first_bad Check bytes m n f g = same_line (language.Reads bytes) (language.FirstBad bytes) m n (language_reading bytes) f g
 one_first_bad Print bytes m n f g = same_line (language.Reads bytes) (language.FirstBad bytes) m n (language_reading bytes) f g
 
 pub one_refusal : (command : Command) (bytes x y : Bytes) → Refuses command bytes x → Refuses command bytes y → y ≡ x
-one_refusal Run bytes x y f g = g.is_text ∙ ap (λ (d : FirstDoc). diagnostics d.items) (first_doc bytes f.doc g.doc f.reads g.reads) ∙ sym f.is_text
+one_refusal Run bytes x y f g = g.is_text ∙ ap (λ (d : FirstDoc). first_diagnostics d.items) (first_doc bytes f.doc g.doc f.reads g.reads) ∙ sym f.is_text
 one_refusal Print bytes x y f g = absurd f
+one_refusal Check bytes x y f g = g.is_text ∙ ap (λ (d : Doc). lines_of (diagnostics d)) (language_doc bytes f.doc g.doc f.reads g.reads) ∙ sym f.is_text
 
 pub one_given : (command : Command) (bytes x y : Bytes) → Gives command bytes x → Gives command bytes y → y ≡ x
 one_given Run bytes x y f g = g.is_text ∙ ap (λ (d : FirstDoc). report d.items) (first_doc bytes f.doc g.doc f.reads g.reads) ∙ sym f.is_text
+one_given Check bytes x y f g = g.is_text ∙ sym f.is_text
 one_given Print bytes x y f g = g.is_text ∙ ap canonical_text (language_doc bytes f.doc g.doc f.reads g.reads) ∙ sym f.is_text
 
 pub bad_isnt_refused : (command : Command) (bytes : Bytes) (n : ℕ) (x : Bytes) → HasFirstBad command bytes n → Refuses command bytes x → ⊥
 bad_isnt_refused Run bytes n x f g = first_not_both bytes n g.doc f g.reads
 bad_isnt_refused Print bytes n x f g = g
+bad_isnt_refused Check bytes n x f g = language_not_both bytes n g.doc f g.reads
 
 pub bad_isnt_given : (command : Command) (bytes : Bytes) (n : ℕ) (x : Bytes) → HasFirstBad command bytes n → Gives command bytes x → ⊥
 bad_isnt_given Run bytes n x f g = first_not_both bytes n g.doc f g.reads
+bad_isnt_given Check bytes n x f g = language_not_both bytes n g.doc f g.reads
 bad_isnt_given Print bytes n x f g = language_not_both bytes n g.doc f g.reads
 
 pub refused_isnt_given : (command : Command) (bytes x y : Bytes) → Refuses command bytes x → Gives command bytes y → ⊥
 refused_isnt_given Run bytes x y f g = f.broken (ap (λ (d : FirstDoc). violations d.items) (first_doc bytes g.doc f.doc g.reads f.reads) ∙ g.good)
 refused_isnt_given Print bytes x y f g = f
+refused_isnt_given Check bytes x y f g = f.broken (ap diagnostics (language_doc bytes g.doc f.doc g.reads f.reads) ∙ g.accepted)

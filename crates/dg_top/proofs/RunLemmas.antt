@@ -7,13 +7,13 @@ use Rattle.dg_top.specs.declared.status.Status.{Status}
 use Rattle.dg_top.specs.declared.status.Status.TheVariants.{Ran, Refused, BadWords, BadLine, ReadFault, WriteFault, NoMemory, TooLong}
 use Rattle.dg_top.specs.declared.command.Program.{Program}
 use Rattle.dg_top.specs.declared.command.Command.{Command}
-use Rattle.dg_top.specs.declared.command.Command.TheVariants.{Run, Print}
+use Rattle.dg_top.specs.declared.command.Command.TheVariants.{Run, Print, Check}
 use Rattle.dg_top.specs.Commands.{AsksFor, HasNoWords}
 use Rattle.dg_top.specs.Output.{document_limit, too_long_text, bad_line_text, HasFirstBad, Refuses, Gives, IsAnswer, too_long, bad_line, refused, ran, IsOutput, bad_words, answered}
 use Rattle.dg_top.specs.Runs.{WritesAll, WritesLess, Writes, TakesExactly, BadLineExactly, RefusedExactly, TooLongExactly, IsComplete}
 use Rattle.dg_top.specs.Answers.{Answers, to_all, to_long}
 use Rattle.dg_top.proofs.StreamLemmas.{appends_none}
-use Rattle.dg_top.proofs.OutputLemmas.{only_output, has_answer, some_text, report_is_some}
+use Rattle.dg_top.proofs.OutputLemmas.{only_output, has_answer, some_text, report_is_some, accepted_is_some}
 
 -- ---- an answer is the one to the bytes that were left
 
@@ -180,6 +180,7 @@ printed_less p words bytes old (b ∷ text) asks answer =
 
 given_less : (p : Program) (words : List Bytes) (command : Command) (bytes : Bytes) (old : Option Bytes) (text : Bytes) → AsksFor p words command → length bytes ≤ document_limit → Gives command bytes text → WritesLess p words bytes old old
 given_less p words Run bytes old text asks within gives = inl (Ran, text, 0, answered Run asks (ran within gives), report_is_some bytes text gives, appends_none old)
+given_less p words Check bytes old text asks within gives = inl (Ran, text, 0, answered Check asks (ran within gives), accepted_is_some bytes text gives, appends_none old)
 given_less p words Print bytes old text asks within gives = printed_less p words bytes old text asks (ran within gives)
 
 module _ (p : Program) (words : List Bytes) (command : Command) (asks : AsksFor p words command) where

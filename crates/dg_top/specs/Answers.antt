@@ -7,14 +7,21 @@ use Rattle.dg_top.specs.declared.command.Command.{Command}
 use Rattle.dg_early.specs.declared.item.Item.{Item}
 use Rattle.dg_lex.specs.Bytes.{Bytes}
 use Rattle.dg_early.specs.Report.{report}
-use Rattle.dg_early.specs.Rules.{violations, diagnostics}
-use Rattle.dg_top.specs.Output.{document_limit, too_long_text, IsAnswer}
+use Rattle.dg_early.specs.Rules.{violations, diagnostics as first_diagnostics}
+use Rattle.dg_decl.specs.declared.document.Doc.{Doc}
+use Rattle.dg_decl.specs.Diagnostics.{diagnostics, IsAccepted}
+use Rattle.dg_top.specs.Output.{document_limit, too_long_text, accepted_text, lines_of, IsAnswer}
 use Rattle.dg_top.specs.Runs.{TakesExactly}
 
 -- the diagnostics of a document of the first forms, or the report of one without violations
 pub data AnswersItems (items : List Item) : Status → Bytes → Type 0 where
-  to_broken : violations items ≢ [] → AnswersItems items Refused (diagnostics items)
+  to_broken : violations items ≢ [] → AnswersItems items Refused (first_diagnostics items)
   to_good : violations items ≡ [] → AnswersItems items Ran (report items)
+
+-- the diagnostics of a document, or that it has none
+pub data AnswersDoc (doc : Doc) : Status → Bytes → Type 0 where
+  to_refused : diagnostics doc ≢ [] → AnswersDoc doc Refused (lines_of (diagnostics doc))
+  to_accepted : IsAccepted doc → AnswersDoc doc Ran accepted_text
 
 -- all bytes were taken and this is the answer to them, or the byte past the limit was taken
 pub data Answers (command : Command) (left new_left : Option Bytes) : Status → Bytes → Type 0 where

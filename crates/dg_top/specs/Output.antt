@@ -1,19 +1,23 @@
 -- The status and the text that belong to a program, its words and the bytes of its input.
 use Rattle.std.specs.Prelude.{◌≡◌, ◌≢◌, ◌<◌, ◌≤◌, ℕ, List, [], ◌∷◌, ◌++◌, length, codes, decimal}
+use Rattle.std.specs.List.{flat_map}
 use Rattle.dg_lex.specs.Bytes.{Bytes, line_end}
 use Rattle.dg_early.specs.declared.document.Doc.{Doc as FirstDoc}
 use Rattle.dg_early.specs.Reading as first_forms
 use Rattle.dg_early.specs.Report.{report}
-use Rattle.dg_early.specs.Rules.{violations, diagnostics}
+use Rattle.dg_early.specs.Rules.{violations, diagnostics as first_diagnostics}
 use Rattle.dg_decl.specs.declared.document.Doc.{Doc}
 use Rattle.dg_decl.specs.Reading as language
+use Rattle.dg_decl.specs.declared.violation.Violation.{Violation}
 use Rattle.dg_decl.specs.Canonical.{canonical_text}
+use Rattle.dg_decl.specs.Diagnostics.{diagnostics, IsAccepted}
+use Rattle.dg_diag.specs.Lines.{line_of}
 use Rattle.dg_top.specs.declared.status.Status.{Status}
 use Rattle.dg_top.specs.declared.status.Status.TheVariants.{Ran, Refused, BadWords, BadLine}
 use Rattle.dg_top.specs.declared.status.Status.TheVariants.{TooLong}
 use Rattle.dg_top.specs.declared.command.Program.{Program}
 use Rattle.dg_top.specs.declared.command.Command.{Command}
-use Rattle.dg_top.specs.declared.command.Command.TheVariants.{Run, Print}
+use Rattle.dg_top.specs.declared.command.Command.TheVariants.{Run, Print, Check}
 use Rattle.dg_top.specs.Commands.{AsksFor, HasNoWords}
 
 -- the most bytes of a document
@@ -26,6 +30,13 @@ too_long_text = codes "too long" ++ line_end ∷ []
 unfoldable pub bad_line_text : ℕ → Bytes
 bad_line_text n = codes "bad line " ++ decimal n ++ line_end ∷ []
 
+unfoldable pub accepted_text : Bytes
+accepted_text = codes "accepted" ++ line_end ∷ []
+
+-- the lines of violations, one after another
+abbrev pub lines_of : List Violation → Bytes
+lines_of broken = flat_map line_of broken
+
 -- ---- a document of the first forms, which a run of today reads
 
 -- it breaks rules, and this text is the lines of its violations
@@ -33,7 +44,7 @@ pub record IsBroken (bytes text : Bytes) : Type 0 where
   pub doc : FirstDoc
   pub reads : first_forms.Reads bytes doc
   pub broken : violations doc.items ≢ []
-  pub is_text : text ≡ diagnostics doc.items
+  pub is_text : text ≡ first_diagnostics doc.items
 
 -- it breaks none, and this text is its report
 pub record IsReported (bytes text : Bytes) : Type 0 where
@@ -50,22 +61,39 @@ pub record IsPrinted (bytes text : Bytes) : Type 0 where
   pub reads : language.Reads bytes doc
   pub is_text : text ≡ canonical_text doc
 
+-- it breaks rules, and this text is the lines of its diagnostics
+pub record IsDiagnosed (bytes text : Bytes) : Type 0 where
+  pub doc : Doc
+  pub reads : language.Reads bytes doc
+  pub broken : diagnostics doc ≢ []
+  pub is_text : text ≡ lines_of (diagnostics doc)
+
+-- it breaks none, and this text says so
+pub record IsApproved (bytes text : Bytes) : Type 0 where
+  pub doc : Doc
+  pub reads : language.Reads bytes doc
+  pub accepted : IsAccepted doc
+  pub is_text : text ≡ accepted_text
+
 -- ---- what is read for a command, and what it gives
 
 -- line n of a document is the first bad one
 abbrev pub HasFirstBad : Command → Bytes → ℕ → Type 0
 HasFirstBad Run bytes n = first_forms.FirstBad bytes n
 HasFirstBad Print bytes n = language.FirstBad bytes n
+HasFirstBad Check bytes n = language.FirstBad bytes n
 
 -- a document is read, and is refused with this text
 abbrev pub Refuses : Command → Bytes → Bytes → Type 0
 Refuses Run bytes text = IsBroken bytes text
 Refuses Print bytes text = ⊥
+Refuses Check bytes text = IsDiagnosed bytes text
 
 -- a document is read, and gives this text
 abbrev pub Gives : Command → Bytes → Bytes → Type 0
 Gives Run bytes text = IsReported bytes text
 Gives Print bytes text = IsPrinted bytes text
+Gives Check bytes text = IsApproved bytes text
 
 -- A command over these bytes has this status and text. The first case that fits is the only one:
 -- too many bytes, then a bad line, then a document that is refused, and then one that isn't.

@@ -17,6 +17,8 @@ pub enum Command {
     Run,
     /// A document's canonical text, whether or not it breaks a rule.
     Print,
+    /// Whether a document breaks no rule, or its diagnostics.
+    Check,
 }
 
 /// What the words ask a program for.
@@ -50,6 +52,7 @@ fn check_command(words: &[String]) -> Option<Command>
     };
     match word.as_str() {
         "print" => Some(Command::Print),
+        "check" => Some(Command::Check),
         _ => None,
     }
 }

@@ -2,7 +2,9 @@
 #![tactic(auto)]
 
 mod answer;
+mod checking;
 mod command;
+mod diagnosing;
 mod input;
 mod output;
 mod perform;

@@ -11,6 +11,7 @@ ghost use Rattle.dg_top.specs.Runs.{Writes, TakesAtMost, IsComplete};
 ghost use Rattle.dg_top.specs.Runs.{BadLineExactly, RefusedExactly, TooLongExactly};
 
 use crate::answer::{Answer, too_long};
+use crate::checking::answer_check;
 use crate::command::{Command, Program, command_of};
 use crate::input::{InputFault, read_all};
 use crate::output::write_all;
@@ -29,6 +30,7 @@ fn answer_to(alloc: Global, command: Command, bytes: &[u8]) -> Result<Answer, No
     match command {
         Command::Run => answer_run(alloc, bytes),
         Command::Print => answer_print(alloc, bytes),
+        Command::Check => answer_check(alloc, bytes),
     }
 }
 

@@ -1,0 +1,9 @@
+use Rattle.dg_top.proofs.StageLemmas.{dependencies_are}
+use Rattle.dg_top.proofs.diagnosing.from_dependencies.Goals as goal
+
+pub returns-then-is_found : goal.returns-then-is_found
+returns-then-is_found c =
+    let some = rw c.as_slice.ensures.value at (c.is_found.ensures.found c.if-is_found.true) in
+    record {
+      exact = dependencies_are c.args.d.now c.in_ok-broken.broken.items c.requires.names c.requires.types c.requires.components c.in_ok-broken.ensures.exact some;
+    }
