@@ -47,7 +47,11 @@ fn leads(found: &Found) -> bool
 fn told_where(leads_on: bool, told: &[bool], edges: &[Edge], place: usize) -> bool
     ensures exact { result ≡ (leads_on && spec.told_at told.now edges.now place) }
 {
-    if leads_on { told_at(told, edges, place) } else { false }
+    if leads_on {
+        told_at(told, edges, place)
+    } else {
+        false
+    }
 }
 
 /// The place of the next edge, behind that of a request, if that leads to a node.
