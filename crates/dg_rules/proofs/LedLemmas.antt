@@ -54,7 +54,8 @@ calls doc n = filter_map (called_edge (deps doc n)) (calls_of doc n)
 
 all_told : (doc : Doc) (n : Node) (ds : List Dependency) (es : List Edge) (ps : List Bool)
     → AreOf doc n ds es ps
-    → map (told_of_edge ps) es ≡ map (is_made doc) (numbered_from 0 ds) ++ map (is_made doc) (calls doc n)
+    → map (told_of_edge ps) es
+    ≡ map (is_made doc) (numbered_from 0 ds) ++ map (is_made doc) (calls doc n)
 unfolding edges
 all_told doc n ds es ps are =
     ap (λ (bs : List Bool). map (told_of_edge bs) es) are.produced
@@ -77,7 +78,10 @@ pub record Told (doc : Doc) (n : Node) (ds : List Dependency) (es : List Edge) (
 
 pub told_none : (doc : Doc) (n : Node) (ds : List Dependency) (es : List Edge) (ps : List Bool)
     (told : List Bool) → told ≡ [] → AreOf doc n ds es ps → Told doc n ds es ps 0 0 told
-told_none doc n ds es ps told none are = record { so_far = none; left = all_told doc n ds es ps are }
+told_none doc n ds es ps told none are = record {
+  so_far = none;
+  left = all_told doc n ds es ps are;
+}
 
 leads_where : (class : ℕ) (key : Key) (f : Found) → is_some (node_found class key f) ≡ leads f
 leads_where class key (found.One o r) = refl

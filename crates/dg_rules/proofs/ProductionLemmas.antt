@@ -40,4 +40,5 @@ pub told_there : (doc : Doc) (ds : List Dependency) (told : List Bool) (i : ℕ)
     → told ≡ map (is_production_found doc) ds → i < length ds → get_or ds i d ≡ d
     → get_or told i false ≡ is_production_found doc d
 told_there doc ds told i d all lt at =
-    ap (λ (bs : List Bool). get_or bs i false) all ∙ read_there (is_production_found doc) ds i d lt at
+    ap (λ (bs : List Bool). get_or bs i false) all
+    ∙ read_there (is_production_found doc) ds i d lt at

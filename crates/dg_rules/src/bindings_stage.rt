@@ -156,8 +156,8 @@ fn bindings_among(
     Ok(())
 }
 
-/// What a document breaks in the stage of bindings, by node and then by rule, where it is known what
-/// its nodes need.
+/// What a document breaks in the stage of bindings, by node and then by rule, where it is known
+/// what its nodes need.
 #[tactic(auto, unfolding(dg_decl::specs::Stages::Bindings::bindings_stage))]
 pub fn violations_of(
     alloc: Global,

@@ -189,8 +189,8 @@ fn map_of_providers(
     )
 }
 
-/// A request of a provision finds a production, or a request for a Provider or a Lazy does. A map of
-/// Providers with productions among its contributions breaks the rule once, as a whole.
+/// A request of a provision finds a production, or a request for a Provider or a Lazy does. A map
+/// of Providers with productions among its contributions breaks the rule once, as a whole.
 #[tactic(auto, using(crate::proofs::ProductionLemmas::productions_are, crate::proofs::ProductionLemmas::any_target), unfolding(dg_decl::specs::Stages::Bindings::depends_on_production))]
 pub(crate) fn depends_on_production(
     alloc: Global,

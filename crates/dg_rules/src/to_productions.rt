@@ -43,7 +43,8 @@ fn leads(found: &Found) -> bool
     )
 }
 
-/// What is told of the node to which a request leads, where it leads to one, by the edge at a place.
+/// What is told of the node to which a request leads, where it leads to one, by the edge at a
+/// place.
 fn told_where(leads_on: bool, told: &[bool], edges: &[Edge], place: usize) -> bool
     ensures exact { result ≡ (leads_on && spec.told_at told.now edges.now place) }
 {
