@@ -3,3 +3,5 @@ pub mod BelowLemmas
 pub mod NamedLemmas
 pub mod DependencyLemmas
 pub mod OpenedLemmas
+pub mod TieLemmas
+pub mod LinkLemmas

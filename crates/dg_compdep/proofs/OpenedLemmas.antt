@@ -11,10 +11,10 @@ use Rattle.dg_decl.specs.Stages.Session.{opened_before}
 use Rattle.dg_decl.proofs.NumberBounds.{none_is_not_some, same_value}
 use Rattle.dg_names.proofs.StatementLemmas.{found_at}
 
-abbrev early : ℕ → (Statement → Bool) → Statement → Bool
+abbrev pub early : ℕ → (Statement → Bool) → Statement → Bool
 early bound p s = nat_lt s.index bound && p s
 
-abbrev guarded : ℕ → Option Statement → Option Statement
+abbrev pub guarded : ℕ → Option Statement → Option Statement
 guarded bound o = option_and_then (λ (s : Statement). if nat_lt s.index bound then Some s else
     None) o
 
@@ -71,6 +71,12 @@ found_early doc k b (x ∷ xs) bound p =
         ∙ ap (λ t. cond t (Some s) (find (early bound p) rest)) (and_no (nat_lt k bound))
         ∙ later
         ∙ sym (ap (λ t. guarded bound (cond t (Some s) (find p rest))) fails)
+
+-- the first of a document's statements that stands before an index and passes
+pub found_before : (doc : Doc) (bound : ℕ) (p : Statement → Bool)
+    → find (early bound p) (statements doc) ≡ guarded bound (find p (statements doc))
+unfolding statements
+found_before doc bound p = found_early doc 0 None doc.items bound p
 
 abbrev called : Bytes → Statement → Bool
 called n = is_called instance_name n

@@ -1,7 +1,7 @@
 //! The component classes, with what stands on what.
 
 ghost use Rattle.std.specs.Prelude.{◌≡◌, ◌<◌, IfOk, false, is_some, option_and_then, option_map};
-ghost use Rattle.std.specs.Prelude.{slice_get, slice_index_or};
+ghost use Rattle.std.specs.Prelude.{option_copied, slice_get, slice_index_or};
 ghost use Rattle.dg_decl.specs.Bounds.{IsBounded};
 ghost use Rattle.dg_decl.specs.Components as components;
 ghost use Rattle.dg_decl.specs.Components.{class_count, component_classes};
@@ -71,6 +71,33 @@ impl<'a> Classes<'a> {
         ensures exact { result ≡ is_some (components.parent_of self.now class) }
     {
         self.classes[class as usize].parent.is_some()
+    }
+
+    /// The class of a number, where there is one.
+    fn class(&self, class: u32) -> Option<&'a Class>
+        ensures exact { option_copied result ≡ slice_get (component_classes self.now) class }
+    {
+        at(self.classes, class as usize)
+    }
+
+    /// The numbers of the dependencies of a class.
+    pub(crate) fn deps(&self, class: u32) -> &'a [u32]
+        ensures exact { result.now ≡ components.deps_of self.now class }
+    {
+        match self.class(class) {
+            Some(class) => class.deps.as_slice(),
+            None => &[],
+        }
+    }
+
+    /// The name of a class; a number without a class has the empty name.
+    pub(crate) fn name_of(&self, class: u32) -> &'a [u8]
+        ensures exact { result.now ≡ components.class_name self.now class }
+    {
+        match self.class(class) {
+            Some(class) => class.name.as_slice(),
+            None => &[],
+        }
     }
 
     /// Whether a walk of parents and dependencies leads from one class to another.

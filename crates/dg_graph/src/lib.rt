@@ -2,6 +2,11 @@
 #![tactic(auto)]
 
 mod building;
+mod groups;
+mod marks;
+mod order;
+mod reached;
+mod sources;
 
 pub use building::{bind_graph, graph_of};
 pub use dg_decl::{BindGraph, Edge, EdgeKind, Node, NodeKind};

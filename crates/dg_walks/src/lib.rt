@@ -2,10 +2,15 @@
 //! node by its number.
 #![tactic(auto)]
 
+mod bodies;
+mod calls;
 mod cycles;
-mod productions;
+mod items;
+mod producing;
+mod rows;
 mod sizes;
+mod turned;
 
 pub use cycles::{on_call, on_cycle};
-pub use productions::productions;
+pub use producing::productions;
 pub use sizes::{depths, weights};

@@ -1,0 +1,5 @@
+pub mod CallFolds
+pub mod CallLemmas
+pub mod DerivedEquality
+pub mod EdgeLemmas
+pub mod NumberLemmas
