@@ -2,7 +2,6 @@
 use Rattle.std.proofs.Common.{◌≡◌, ℕ, zero, suc, ◌+◌, ◌<◌, ◌≤◌, Bool, true, false, ◌&&◌, List, [], ◌∷◌, ◌++◌, length, get_or, map, take, drop, filter_map, slice_get, Option, Some, None, option_map, is_some, if◌then◌else◌, refl, sym, ap, ◌∙◌, arith}
 use Rattle.std.specs.List.{enumerate_from, cons_option}
 use Rattle.std.specs.Option.{option_map_or}
-use Rattle.std.proofs.Math.Seq.{take-length}
 use Rattle.std.proofs.lemmas.List.{map-append}
 use Rattle.std.proofs.lemmas.Option.{none-some, same_Some, slice_get-map}
 use Rattle.dg_types.specs.declared.key.Key.{Key}
@@ -12,7 +11,7 @@ use Rattle.dg_decl.specs.declared.binding.Found.TheVariants as found
 use Rattle.dg_decl.specs.declared.graph.Edge.{Edge}
 use Rattle.dg_decl.specs.declared.graph.EdgeKind.{EdgeKind}
 use Rattle.dg_decl.specs.declared.graph.Node.{Node}
-use Rattle.dg_decl.specs.Graph.{Dependency, deps, node_found, target, EdgeTo, edge_kind, edge_to, needed_edges, called_edge, calls_of, edges, nodes, numbered_edges}
+use Rattle.dg_decl.specs.Graph.{Dependency, deps, node_found, target, EdgeTo, edge_kind, edge_to, needed_edges, called_edge, calls_of, edges, nodes}
 use Rattle.dg_decl.specs.GraphLaws.{Led, edge_led, numbered_led}
 use Rattle.dg_decl.specs.Sizes.{is_production}
 use Rattle.dg_decl.specs.Stages.Bindings.{is_production_found}
@@ -55,7 +54,8 @@ calls doc n = filter_map (called_edge (deps doc n)) (calls_of doc n)
 
 all_told : (doc : Doc) (n : Node) (ds : List Dependency) (es : List Edge) (ps : List Bool)
     → AreOf doc n ds es ps
-    → map (told_of_edge ps) es ≡ map (is_made doc) (numbered_from 0 ds) ++ map (is_made doc) (calls doc n)
+    → map (told_of_edge ps) es
+    ≡ map (is_made doc) (numbered_from 0 ds) ++ map (is_made doc) (calls doc n)
 unfolding edges
 all_told doc n ds es ps are =
     ap (λ (bs : List Bool). map (told_of_edge bs) es) are.produced
@@ -78,14 +78,10 @@ pub record Told (doc : Doc) (n : Node) (ds : List Dependency) (es : List Edge) (
 
 pub told_none : (doc : Doc) (n : Node) (ds : List Dependency) (es : List Edge) (ps : List Bool)
     (told : List Bool) → told ≡ [] → AreOf doc n ds es ps → Told doc n ds es ps 0 0 told
-told_none doc n ds es ps told none are = record { so_far = none; left = all_told doc n ds es ps are }
-
-pub told_all : (doc : Doc) (n : Node) (ds : List Dependency) (es : List Edge) (ps : List Bool)
-    (i place : ℕ) (told : List Bool) → AreOf doc n ds es ps → i ≡ length ds
-    → Told doc n ds es ps i place told → told ≡ map (is_production_found doc) (deps doc n)
-told_all doc n ds es ps i place told are whole so =
-    so.so_far ∙ ap (map (is_production_found doc))
-    (ap (λ k. take k ds) whole ∙ take-length ds ∙ are.needs)
+told_none doc n ds es ps told none are = record {
+  so_far = none;
+  left = all_told doc n ds es ps are;
+}
 
 leads_where : (class : ℕ) (key : Key) (f : Found) → is_some (node_found class key f) ≡ leads f
 leads_where class key (found.One o r) = refl
@@ -142,10 +138,10 @@ pub told_more : (doc : Doc) (n : Node) (ds : List Dependency) (es : List Edge) (
 told_more doc n ds es ps i place next told more d b flag so lt at is told_so pushed behind =
     let later = numbered_from (i + 1) (drop (i + 1) ds) in
     let p = passed doc es ps (edge_kind d.mode) (suc i) place next later
-        (map (is_made doc) (calls doc n)) (target d) b flag
-        (so.left ∙ ap (λ xs. map (is_made doc) (numbered_from i xs) ++ map (is_made doc) (calls doc n))
-        (split_there ds i d lt at))
-        (leads_where d.class d.key d.found ∙ sym is) told_so behind in
+    (map (is_made doc) (calls doc n)) (target d) b flag
+    (so.left ∙ ap (λ xs. map (is_made doc) (numbered_from i xs) ++ map (is_made doc) (calls doc n))
+    (split_there ds i d lt at))
+    (leads_where d.class d.key d.found ∙ sym is) told_so behind in
     record {
       so_far = pushed
           ∙ ap (λ bs. bs ++ flag ∷ []) so.so_far

@@ -26,13 +26,6 @@ read_there p (y ∷ ys) (suc i) x lt e = read_there p ys i x (omega arith) e
 pub none_there : (xs : List Bool) (i : ℕ) → None ≡ slice_get xs i → false ≡ get_or xs i false
 none_there xs i e = ap (λ o. unwrap_or o false) e ∙ unwrap_or-slice_get xs i false
 
--- the same for numbers
-pub number_there : {A : Type 0} (f : A → ℕ) (xs : List A) (i : ℕ) (x : A) (d : ℕ)
-    → i < length xs → get_or xs i x ≡ x → get_or (map f xs) i d ≡ f x
-number_there f [] i x d lt e = absurd (omega arith)
-number_there f (y ∷ ys) zero x d lt e = ap f e
-number_there f (y ∷ ys) (suc i) x d lt e = number_there f ys i x d (omega arith) e
-
 or_given : {B : Type 0} (p : B → Bool) (o : Option B) (ys : List B)
     → list_any p (cons_option o ys) ≡ (option_map_or p o false || list_any p ys)
 or_given p None ys = refl

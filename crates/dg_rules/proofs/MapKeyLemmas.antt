@@ -257,14 +257,14 @@ pub repeated_are : (doc : Doc) (n : Node) (ds : List Dependency) (once again : L
 repeated_are doc n ds once again seen =
     let ks = keys_found doc ds in
     let all : seen_of once again ≡ fold seen_with (seen_of [] []) ks =
-        seen ∙ fold_given (λ (d : Dependency). key_of_found doc d.found) (seen_of [] []) ds in
+    seen ∙ fold_given (λ (d : Dependency). key_of_found doc d.found) (seen_of [] []) ds in
     let firsts : once ≡ first_ones ks =
-        ap (λ (s : Seen). s.once) all ∙ once_is (seen_of [] []) ks ∙ all_fresh (first_ones ks) in
+    ap (λ (s : Seen). s.once) all ∙ once_is (seen_of [] []) ks ∙ all_fresh (first_ones ks) in
     let c = counted_all (seen_of [] []) (λ k. 0) ks none_counted in
     let often : (k : MapKeyVal) → list_any (same_map_key k) again
-            ≡ nat_lt 1 (count_by (same_map_key k) ks) =
-        λ k. ap (λ (s : Seen). list_any (same_map_key k) s.again) all ∙ c.again k
-        ∙ ap (nat_lt 1) (zero-add (count_by (same_map_key k) ks)) in
+    ≡ nat_lt 1 (count_by (same_map_key k) ks) =
+    λ k. ap (λ (s : Seen). list_any (same_map_key k) s.again) all ∙ c.again k
+    ∙ ap (nat_lt 1) (zero-add (count_by (same_map_key k) ks)) in
     ap (flat_map (where_again doc n again)) firsts
     ∙ (λ i. flat_map (λ k. cond (often k i) (at_node rule.MapKeys (Some (map_key_text k)) doc n
     ∷ []) []) (first_ones ks))

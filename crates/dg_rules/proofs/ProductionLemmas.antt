@@ -1,5 +1,5 @@
 -- What requests for productions break, and whether what a node needs has one.
-use Rattle.std.proofs.Common.{◌≡◌, ℕ, ◌<◌, Bool, true, false, cond, ◌&&◌, ◌||◌, List, [], ◌∷◌, length, get_or, map, filter_map, flat_map, Option, Some, None, option_to_list, if◌then◌else◌, refl, sym, ap, ◌∙◌}
+use Rattle.std.proofs.Common.{◌≡◌, ℕ, ◌<◌, Bool, true, false, ◌&&◌, ◌||◌, List, length, get_or, map, filter_map, flat_map, Some, None, option_to_list, if◌then◌else◌, refl, sym, ap, ◌∙◌}
 use Rattle.std.specs.List.{list_any}
 use Rattle.dg_types.specs.Texts.{key_text}
 use Rattle.dg_decl.specs.declared.document.Doc.{Doc}
@@ -40,4 +40,5 @@ pub told_there : (doc : Doc) (ds : List Dependency) (told : List Bool) (i : ℕ)
     → told ≡ map (is_production_found doc) ds → i < length ds → get_or ds i d ≡ d
     → get_or told i false ≡ is_production_found doc d
 told_there doc ds told i d all lt at =
-    ap (λ (bs : List Bool). get_or bs i false) all ∙ read_there (is_production_found doc) ds i d lt at
+    ap (λ (bs : List Bool). get_or bs i false) all
+    ∙ read_there (is_production_found doc) ds i d lt at

@@ -1,5 +1,5 @@
 -- A weight that is cut off one past the limit is past it where the weight is.
-use Rattle.std.proofs.Common.{◌≡◌, inl, inr, ℕ, ◌<◌, ◌≤◌, Bool, true, false, min, nat_lt, List, [], ◌++◌, flat_map, map, length, get_or, sym, ap, ◌∙◌, arith, refl}
+use Rattle.std.proofs.Common.{◌≡◌, ℕ, Bool, true, false, min, nat_lt, List, [], ◌++◌, flat_map, sym, ap, ◌∙◌, arith, refl}
 use Rattle.std.proofs.lemmas.Bool.{lt-ltb, le-ltb, ltb-true, ltb-false}
 use Rattle.dg_decl.specs.declared.document.Doc.{Doc}
 use Rattle.dg_decl.specs.declared.graph.Node.{Node}

@@ -1,5 +1,5 @@
 -- The nodes of a document, and what is told of them by their numbers.
-use Rattle.std.proofs.Common.{◌≡◌, ℕ, zero, suc, ◌<◌, Bool, false, List, [], ◌∷◌, length, get_or, map, slice_get, Contains, sym, ap, ◌∙◌, arith}
+use Rattle.std.proofs.Common.{◌≡◌, ℕ, zero, suc, ◌<◌, List, [], ◌∷◌, length, get_or, map, slice_get, Contains, sym, ap, ◌∙◌, arith}
 use Rattle.std.specs.List.{range_with_len}
 use Rattle.std.specs.Option.{option_map_or}
 use Rattle.dg_decl.specs.declared.document.Doc.{Doc}
@@ -9,7 +9,6 @@ use Rattle.dg_decl.specs.Components.{class_count}
 use Rattle.dg_decl.specs.Graph.{candidates, edge_lists, kinds_of, node_of, nodes, numbered_edges}
 use Rattle.dg_decl.proofs.GraphLemmas.{node_is_candidate}
 use Rattle.dg_decl.proofs.MemberLemmas.{out_flat_map, out_map, out_range}
-use Rattle.dg_rules.proofs.ListLemmas.{read_there}
 
 small : (doc : Doc) (n : Node) → Contains (candidates doc) n → n.class < class_count doc
 unfolding candidates
@@ -38,16 +37,3 @@ edges_of doc ns all i n are lists lt at =
     ap (λ (es : List (List Edge)). option_map_or (λ e. e) (slice_get es i) []) lists
     ∙ edges_there (numbered_edges doc) (nodes doc) i n (omega (arith, ap length are))
     (ap (λ (ms : List Node). get_or ms i n) (sym are) ∙ at)
-
-pub told_of_node : (doc : Doc) (p : Node → Bool) (ns : List Node) (told : List Bool) (i : ℕ)
-    (n : Node) → ns ≡ nodes doc → told ≡ map p (nodes doc) → i < length ns → get_or ns i n ≡ n
-    → get_or told i false ≡ p n
-told_of_node doc p ns told i n are all lt at =
-    ap (λ (bs : List Bool). get_or bs i false) all
-    ∙ read_there p (nodes doc) i n (omega (arith, ap length are))
-    (ap (λ (ms : List Node). get_or ms i n) (sym are) ∙ at)
-
-pub among : (doc : Doc) (ns : List Node) (i : ℕ) (n : Node) → ns ≡ nodes doc → i < length ns
-    → get_or ns i n ≡ n → Contains (nodes doc) n
-among doc ns i n are lt at =
-    (i, omega (arith, ap length are), ap (λ (ms : List Node). get_or ms i n) (sym are) ∙ at)

@@ -1,5 +1,5 @@
 -- The map keys of what a map needs, and which of them stand there again.
-use Rattle.std.specs.Prelude.{◌++◌, List, [], ◌∷◌, map, filter_map, Option, Some, None, option_and_then, if◌then◌else◌}
+use Rattle.std.specs.Prelude.{List, [], ◌∷◌, map, filter_map, Option, Some, None, option_and_then, if◌then◌else◌}
 use Rattle.std.specs.List.{list_any}
 use Rattle.indexmap.specs.IndexSet.{insert_key}
 use Rattle.dg_types.specs.declared.key.MapKeyVal.{MapKeyVal}

@@ -23,7 +23,6 @@ use sqlite_items::Items;
 use std::alloc::Global;
 
 /// What a node breaks, by rule.
-#[tactic(auto, unfolding(dg_decl::specs::Stages::Bindings::bindings_at))]
 fn bindings_at(
     alloc: Global,
     sites: &Sites<'_>,
@@ -91,7 +90,6 @@ fn told_of(alloc: Global, d: &Doc, g: &BindGraph) -> Result<Told, NoMemory>
 }
 
 /// Appends what the node of this number breaks, where this is told of all nodes.
-#[tactic(auto, using(crate::proofs::StageLemmas::class_small))]
 fn bindings_of(
     alloc: Global,
     dependencies: &Dependencies<'_>,
@@ -158,8 +156,8 @@ fn bindings_among(
     Ok(())
 }
 
-/// What a document breaks in the stage of bindings, by node and then by rule, where it is known what
-/// its nodes need.
+/// What a document breaks in the stage of bindings, by node and then by rule, where it is known
+/// what its nodes need.
 #[tactic(auto, unfolding(dg_decl::specs::Stages::Bindings::bindings_stage))]
 pub fn violations_of(
     alloc: Global,

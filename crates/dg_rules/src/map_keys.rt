@@ -86,11 +86,7 @@ fn note_some(alloc: Global, seen: &mut Seen, key: Option<&MapKeyVal>) -> Result<
 }
 
 /// The map keys of contributions.
-fn seen_keys(
-    alloc: Global,
-    sites: &Sites<'_>,
-    needed: &[Dependency<'_>],
-) -> Result<Seen, NoMemory>
+fn seen_keys(alloc: Global, sites: &Sites<'_>, needed: &[Dependency<'_>]) -> Result<Seen, NoMemory>
     ensures exact { IfOk result (λ seen. spec.seen_of seen.once.keys seen.again.keys
         ≡ fold (λ s d. spec.seen_some s (spec.key_of_found sites.now d.found))
         (spec.seen_of [] []) needed.now) }

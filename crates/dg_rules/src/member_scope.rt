@@ -38,7 +38,14 @@ fn where_not_carried(
     }
     let mut detail = Vec::new(alloc);
     push_scope(scope, &mut detail)?;
-    push_node_by(alloc, Rule::IncompatiblyScopedMember, detail, sites, node, broken)
+    push_node_by(
+        alloc,
+        Rule::IncompatiblyScopedMember,
+        detail,
+        sites,
+        node,
+        broken,
+    )
 }
 
 /// The owner of a module member doesn't carry the member's scope.

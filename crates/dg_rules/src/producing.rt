@@ -97,7 +97,11 @@ fn any_holds(tests: &[bool]) -> bool
 fn may_not_wait(provision: bool, mode: Mode) -> bool
     ensures exact { result ≡ (provision || stage.is_provider_mode mode) }
 {
-    if provision { true } else { is_provider_mode(mode) }
+    if provision {
+        true
+    } else {
+        is_provider_mode(mode)
+    }
 }
 
 /// Appends a rule where a request may not lead to a production, and does.
@@ -122,7 +126,15 @@ fn production_at(
         return Ok(());
     }
     let detail = key_text(alloc, &d.key)?;
-    push_request(alloc, Rule::DependsOnProduction, detail, sites, node, d, broken)
+    push_request(
+        alloc,
+        Rule::DependsOnProduction,
+        detail,
+        sites,
+        node,
+        d,
+        broken,
+    )
 }
 
 /// Appends a rule for each request that may not lead to a production, and does.
@@ -167,11 +179,18 @@ fn map_of_providers(
         return Ok(());
     }
     let detail = key_text(alloc, key)?;
-    push_node_by(alloc, Rule::DependsOnProduction, detail, sites, node, broken)
+    push_node_by(
+        alloc,
+        Rule::DependsOnProduction,
+        detail,
+        sites,
+        node,
+        broken,
+    )
 }
 
-/// A request of a provision finds a production, or a request for a Provider or a Lazy does. A map of
-/// Providers with productions among its contributions breaks the rule once, as a whole.
+/// A request of a provision finds a production, or a request for a Provider or a Lazy does. A map
+/// of Providers with productions among its contributions breaks the rule once, as a whole.
 #[tactic(auto, using(crate::proofs::ProductionLemmas::productions_are, crate::proofs::ProductionLemmas::any_target), unfolding(dg_decl::specs::Stages::Bindings::depends_on_production))]
 pub(crate) fn depends_on_production(
     alloc: Global,

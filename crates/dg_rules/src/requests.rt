@@ -35,7 +35,6 @@ fn missing_at(
 }
 
 /// A request finds nothing.
-#[tactic(auto, using(crate::proofs::RequestLemmas::missing_is))]
 pub(crate) fn missing_binding(
     alloc: Global,
     sites: &Sites<'_>,
@@ -54,11 +53,7 @@ pub(crate) fn missing_binding(
 }
 
 /// Appends the site of a binding with its owner.
-fn push_site_of_owned(
-    sites: &Sites<'_>,
-    owned: &Owned,
-    text: &mut Vec<u8>,
-) -> Result<(), NoMemory>
+fn push_site_of_owned(sites: &Sites<'_>, owned: &Owned, text: &mut Vec<u8>) -> Result<(), NoMemory>
     ensures exact { OnOk result
         (text.new.items ≡ text.old.items ++ stage.site_of_owned sites.now owned.now) }
 {
@@ -70,11 +65,7 @@ fn push_site_of_owned(
 }
 
 /// Appends the site of one more binding.
-fn push_further_site(
-    sites: &Sites<'_>,
-    owned: &Owned,
-    text: &mut Vec<u8>,
-) -> Result<(), NoMemory>
+fn push_further_site(sites: &Sites<'_>, owned: &Owned, text: &mut Vec<u8>) -> Result<(), NoMemory>
     ensures exact { OnOk result (text.new.items
         ≡ text.old.items ++ (codes ", " ++ stage.site_of_owned sites.now owned.now)) }
 {
@@ -128,14 +119,21 @@ fn duplicate_at(
     match &d.found {
         Found::Many(owners) => {
             let detail = many_text(alloc, sites, &d.key, owners.as_slice())?;
-            push_request(alloc, Rule::DuplicateBindings, detail, sites, node, d, broken)
+            push_request(
+                alloc,
+                Rule::DuplicateBindings,
+                detail,
+                sites,
+                node,
+                d,
+                broken,
+            )
         }
         _ => Ok(()),
     }
 }
 
 /// A request finds two bindings or more: the detail is the key and their sites.
-#[tactic(auto, using(crate::proofs::RequestLemmas::duplicates_are))]
 pub(crate) fn duplicate_bindings(
     alloc: Global,
     sites: &Sites<'_>,
@@ -183,7 +181,6 @@ fn bad_scope_at(
 }
 
 /// A request finds an `@Inject` class whose scope no class of the chain carries.
-#[tactic(auto, using(crate::proofs::RequestLemmas::bad_scopes_are))]
 pub(crate) fn incompatibly_scoped_bindings(
     alloc: Global,
     sites: &Sites<'_>,

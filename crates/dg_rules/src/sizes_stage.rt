@@ -116,7 +116,6 @@ fn sizes_among(
 }
 
 /// What a document breaks in the stage of sizes, by node and then by rule.
-#[tactic(auto, unfolding(dg_decl::specs::Stages::Sizes::sizes_stage))]
 pub fn sizes(
     alloc: Global,
     d: &Doc,

@@ -43,11 +43,16 @@ fn leads(found: &Found) -> bool
     )
 }
 
-/// What is told of the node to which a request leads, where it leads to one, by the edge at a place.
+/// What is told of the node to which a request leads, where it leads to one, by the edge at a
+/// place.
 fn told_where(leads_on: bool, told: &[bool], edges: &[Edge], place: usize) -> bool
     ensures exact { result ≡ (leads_on && spec.told_at told.now edges.now place) }
 {
-    if leads_on { told_at(told, edges, place) } else { false }
+    if leads_on {
+        told_at(told, edges, place)
+    } else {
+        false
+    }
 }
 
 /// The place of the next edge, behind that of a request, if that leads to a node.

@@ -85,7 +85,8 @@ of_class : {A : Type 0} (doc : Doc) (classes : List Class) (c : ℕ) (f : Class 
 of_class doc classes c f d all past =
     ap (λ (cs : List Class). option_map_or f (slice_get cs c) d) all
     ∙ elim (slice_get_cases (component_classes doc) c).1 [
-      | inl w ↦ ap (λ o. option_map_or f o d) (class_at doc c (omega (arith, classes_counted doc, w.1)))
+      | inl w ↦ ap (λ o. option_map_or f o d)
+          (class_at doc c (omega (arith, classes_counted doc, w.1)))
       | inr w ↦ ap (λ o. option_map_or f o d) w.1
           ∙ sym (past (omega (arith, classes_counted doc, w.0)))
     ]

@@ -1,7 +1,7 @@
 use Rattle.std.proofs.Common.{◌∙◌, sym, ap, arith}
 use Rattle.dg_decl.specs.Graph.{Dependency}
 use Rattle.dg_rules.specs.Productions.{leads}
-use Rattle.dg_rules.proofs.LedLemmas.{told_none, told_more, told_all, few_behind}
+use Rattle.dg_rules.proofs.LedLemmas.{told_none, told_more, few_behind}
 use Rattle.dg_rules.proofs.to_productions.to_productions.Goals as goal
 
 pub loop-d-init : goal.loop-d-init
