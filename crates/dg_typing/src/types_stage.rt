@@ -12,6 +12,11 @@ ghost use Rattle.std.specs.Prelude.{◌≡◌, IfOk};
 ghost use Rattle.dg_decl.specs.Bounds.{IsBounded};
 ghost use Rattle.dg_decl.specs.Stages.Types.{types_stage};
 
+pub use self::fields::{Fields, fields_of, type_of_field, type_of_param};
+pub use self::given::{Given, class_of};
+pub use self::shapes::got;
+pub use self::typing::{checks, inside_param, type_by_name};
+
 use self::rules::types_at;
 use dg_decl::{Doc, Violation};
 use dg_names::Names;

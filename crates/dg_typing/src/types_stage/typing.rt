@@ -49,7 +49,7 @@ fn found(shape: Option<&Shape>) -> Option<Given<'_>>
 }
 
 /// The type that a call by the name of a parameter gives.
-fn type_by_name<'a>(params: &'a [Param], f: ParamCall, name: &[u8]) -> Option<Given<'a>>
+pub fn type_by_name<'a>(params: &'a [Param], f: ParamCall, name: &[u8]) -> Option<Given<'a>>
     ensures exact { result ≡ spec.type_by_name params.now f name.now }
 {
     match type_of_param(params, name) {
@@ -59,7 +59,7 @@ fn type_by_name<'a>(params: &'a [Param], f: ParamCall, name: &[u8]) -> Option<Gi
 }
 
 /// The B of a parameter with `Optional<B>`.
-fn inside_param<'a>(params: &'a [Param], name: &[u8]) -> Option<&'a Shape>
+pub fn inside_param<'a>(params: &'a [Param], name: &[u8]) -> Option<&'a Shape>
     ensures exact { option_map (λ t. t.now) result
         ≡ spec.part spec.inside_at (spec.type_of_param params.now name.now) }
 {

@@ -7,6 +7,8 @@ ghost use Rattle.dg_session.specs.Faults.{IsFaultOf};
 ghost use Rattle.dg_slots.specs.Sessions.{session_of};
 
 use crate::fault::SessionFault;
+use crate::rules::broken_lines;
+use crate::scene::Scene;
 use dg_decl::{CompTree, Doc};
 use dg_slots::Session;
 use std::alloc::Global;
@@ -21,6 +23,11 @@ pub fn session(alloc: Global, d: &Doc, t: &CompTree) -> Result<Session, SessionF
     ensures accepted { OnOk result (session_stage d.now ≡ []) }
     ensures cause { IfErr result (IsFaultOf d.now) }
 {
-    let _ = (alloc, d, t);
-    Err(SessionFault::NoMemory)
+    let scene = Scene::of(alloc, d, t)?;
+    let broken = broken_lines(alloc, &scene)?;
+    if broken.is_empty() {
+        Err(SessionFault::NoMemory)
+    } else {
+        Err(SessionFault::Broken(broken))
+    }
 }
