@@ -4,6 +4,7 @@
 mod arguments;
 mod entries;
 mod fault;
+mod numbered;
 mod opened;
 mod paths;
 mod rules;
@@ -11,4 +12,5 @@ mod scene;
 mod sessions;
 
 pub use fault::SessionFault;
+pub use numbered::{Numbers, numbered_cond, numbered_expr, numbered_tree};
 pub use sessions::session;
