@@ -125,11 +125,11 @@ class_found doc d n index numbers list same are is found =
 
 -- ---- fields
 
-pub default_number : (field : Bytes) → param_number default_fields field ≡ 0
+pub default_number : (field : Bytes) → ◌≡◌ {A = ℕ} (param_number default_fields field) 0
 default_number field =
     ap (λ (o : Option ℕ). unwrap_or o 0) (position_from-zero (is_named field) default_fields)
     ∙ first (bytes_eq (codes "name") field)
   where
-    first : (b : Bool) → unwrap_or (cond b (Some 0) None) 0 ≡ 0
+    first : (b : Bool) → ◌≡◌ {A = ℕ} (unwrap_or (cond b (Some 0) None) 0) 0
     first true = refl
     first false = refl

@@ -44,6 +44,13 @@ fn entry_called(names: &Names<'_>, entries: &[u32], name: &[u8]) -> Option<u32>
     None
 }
 
+/// The place of the entry of this name among some entries. It looks through them.
+pub(crate) fn entry_place(names: &Names<'_>, entries: &[u32], name: &[u8]) -> Option<usize>
+    ensures exact { result ≡ position (sessions.is_entry_called names.now name.now) entries.now }
+{
+    entries.iter().position(|entry| is_entry_called(names, name, *entry))
+}
+
 /// The entry of this name of a class. It looks through the entries of the class.
 fn entry_named<'a>(scene: &Scene<'a>, class: u32, name: &[u8]) -> Option<&'a Item>
     ensures exact { option_copied result ≡ stage.entry_named scene.now class name.now }

@@ -2,8 +2,10 @@
 #![tactic(auto)]
 
 mod arguments;
+mod asks;
 mod entries;
 mod fault;
+mod insts;
 mod numbered;
 mod opened;
 mod paths;

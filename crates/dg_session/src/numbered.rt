@@ -181,7 +181,7 @@ impl<'n, 'a> Numbers<'n, 'a> {
     #[tactic(auto, unfolding(dg_slots::specs::Numbered::field_number))]
     pub fn field_number(&self, class: Option<&Name>, field: &[u8]) -> Result<u32, NoMemory>
         ensures exact { IfOk result (λ number. number ≡ spec.field_number self.now
-            (option_map (λ n. n.now) class) field.now) }
+            (option_map (λ n. n.now) class.entry) field.now) }
     {
         match class {
             Some(class) => self.number_in_class(class.as_slice(), field),

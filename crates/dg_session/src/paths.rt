@@ -7,6 +7,7 @@ ghost use Rattle.dg_decl.specs.Names as declared;
 ghost use Rattle.dg_decl.specs.Names.{default_fields};
 ghost use Rattle.dg_decl.specs.Typing as typing;
 ghost use Rattle.dg_decl.specs.Stages.Session as stage;
+ghost use Rattle.dg_slots.specs.Numbered as numbered;
 ghost use Rattle.dg_typing.specs.TypesGiven.{class_at};
 
 use dg_decl::{AskStep, Param};
@@ -86,6 +87,13 @@ impl<'a> Spot<'a> {
             Some(shape) => class_of(shape),
             None => None,
         }
+    }
+
+    /// The name of the class of an object.
+    pub(crate) fn class_of_object(&self) -> Option<&'a Name>
+        ensures exact { option_map (λ n. n.now) result ≡ numbered.class_at (out-Shape self.now) }
+    {
+        self.class()
     }
 
     /// What a Provider or Lazy gives.
