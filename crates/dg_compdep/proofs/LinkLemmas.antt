@@ -172,8 +172,13 @@ numbered doc k b (x ∷ xs) (suc j) n o e is =
 opened_is_open : (n : Bytes) (o : Statement) → is_called instance_name n o ≡ true → opens o ≡ true
 opened_is_open n o e = by o.item e
   where
-    by : (x : Item) → is_called instance_name n (record { index = 0; line = 0; block = None; item
-        = x }) ≡ true → is_open_line x ≡ true
+    by : (x : Item) → is_called instance_name n (record {
+      index = 0;
+      line = 0;
+      block = None;
+      item
+          = x;
+    }) ≡ true → is_open_line x ≡ true
     by (item.OpenLine m class parent args) e = refl
     by x e = absurd (true≢false (sym e))
 

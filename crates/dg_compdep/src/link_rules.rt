@@ -75,9 +75,12 @@ fn wrong_dependency(
         return Ok(None);
     }
     match class_of_instance(tied.names(), s, to.as_slice()) {
-        Some(class) => Ok(
-            Some(at_line(alloc, Rule::WrongDependency, s, tied.classes().name_of(class))?),
-        ),
+        Some(class) => Ok(Some(at_line(
+            alloc,
+            Rule::WrongDependency,
+            s,
+            tied.classes().name_of(class),
+        )?)),
         None => Ok(None),
     }
 }
@@ -130,9 +133,7 @@ fn missing_link(
     ensures exact { IfOk result (λ v. option_to_list v ≡ stage.missing_link tied.now s.now) }
 {
     match untied(tied, s)? {
-        Some(dep) => Ok(
-            Some(at_line(alloc, Rule::MissingLink, s, tied.classes().name_of(dep))?),
-        ),
+        Some(dep) => Ok(Some(at_line(alloc, Rule::MissingLink, s, tied.classes().name_of(dep))?)),
         None => Ok(None),
     }
 }

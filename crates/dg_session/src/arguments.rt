@@ -54,12 +54,7 @@ fn fits_bound<'a>(names: &Names<'a>, bounds: &[Bound], arg: &'a OpenArg) -> bool
 }
 
 /// Whether an argument fits, and none of the earlier ones has its name.
-fn is_good<'a>(
-    names: &Names<'a>,
-    bounds: &[Bound],
-    earlier: &[OpenArg],
-    arg: &'a OpenArg,
-) -> bool
+fn is_good<'a>(names: &Names<'a>, bounds: &[Bound], earlier: &[OpenArg], arg: &'a OpenArg) -> bool
     ensures exact { result ≡ (stage.fits_bound names.now bounds.now arg.now
         && not (is_among arg.now.name (names_of earlier.now))) }
 {

@@ -139,13 +139,11 @@ fn ask_of<'a>(
         entry.as_slice(),
         steps.as_slice(),
     )?;
-    Ok(
-        Some(Ask {
-            inst: number,
-            entry: place,
-            steps,
-        }),
-    )
+    Ok(Some(Ask {
+        inst: number,
+        entry: place,
+        steps,
+    }))
 }
 
 /// The asks, in the order of their lines.

@@ -48,7 +48,9 @@ fn entry_called(names: &Names<'_>, entries: &[u32], name: &[u8]) -> Option<u32>
 pub(crate) fn entry_place(names: &Names<'_>, entries: &[u32], name: &[u8]) -> Option<usize>
     ensures exact { result ≡ position (sessions.is_entry_called names.now name.now) entries.now }
 {
-    entries.iter().position(|entry| is_entry_called(names, name, *entry))
+    entries
+        .iter()
+        .position(|entry| is_entry_called(names, name, *entry))
 }
 
 /// The entry of this name of a class. It looks through the entries of the class.

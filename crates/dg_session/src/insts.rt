@@ -83,7 +83,8 @@ fn inst_of<'a>(
         parent,
         args,
         ..
-    } = s.item else {
+    } = s.item
+    else {
         return Ok(None);
     };
     let Some(class) = scene.names().class_named(class.as_slice()) else {
@@ -91,13 +92,11 @@ fn inst_of<'a>(
     };
     let bound = arguments_for(alloc, numbers, args.as_slice(), scene.bounds(class))?;
     let parent = instance_of_named(instances, s, parent);
-    Ok(
-        Some(Inst {
-            class,
-            parent,
-            bound,
-        }),
-    )
+    Ok(Some(Inst {
+        class,
+        parent,
+        bound,
+    }))
 }
 
 /// The instances, in the order of their lines.

@@ -56,11 +56,7 @@ fn next_number(number: u32, s: &Statement<'_>) -> u32
     ensures exact { result ≡ number_behind number s.now }
     ensures bound { result ≤ number + 1 }
 {
-    if is_class(s.item) {
-        number + 1
-    } else {
-        number
-    }
+    if is_class(s.item) { number + 1 } else { number }
 }
 
 /// The numbers that classes declared by each of some statements would have.

@@ -145,7 +145,13 @@ fn bad_path(
     let Item::AskLine { inst, entry, steps } = s.item else {
         return Ok(None);
     };
-    match asked_misfit(scene, s, inst.as_slice(), entry.as_slice(), steps.as_slice()) {
+    match asked_misfit(
+        scene,
+        s,
+        inst.as_slice(),
+        entry.as_slice(),
+        steps.as_slice(),
+    ) {
         Some(number) => {
             let detail = decimal_text(alloc, number)?;
             Ok(Some(at_line(alloc, Rule::BadPath, s, detail.as_slice())?))

@@ -14,10 +14,9 @@ ghost use Rattle.dg_decl.specs.Stages.Types.{types_stage};
 
 pub use self::fields::{Fields, fields_of, type_of_field, type_of_param};
 pub use self::given::{Given, class_of};
+use self::rules::types_at;
 pub use self::shapes::got;
 pub use self::typing::{checks, inside_param, type_by_name};
-
-use self::rules::types_at;
 use dg_decl::{Doc, Violation};
 use dg_names::Names;
 use dg_types::NoMemory;
