@@ -1,8 +1,18 @@
 //! The `open` and `ask` lines of a document by number, and the stage of the session.
 #![tactic(auto)]
 
+mod arguments;
+mod asks;
+mod entries;
 mod fault;
-mod session;
+mod insts;
+mod numbered;
+mod opened;
+mod paths;
+mod rules;
+mod scene;
+mod sessions;
 
 pub use fault::SessionFault;
-pub use session::session;
+pub use numbered::{Numbers, numbered_cond, numbered_expr, numbered_tree};
+pub use sessions::session;

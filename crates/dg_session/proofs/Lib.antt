@@ -1,0 +1,5 @@
+pub mod SceneLemmas
+pub mod ArgumentLemmas
+pub mod EntryLemmas
+pub mod NumberLemmas
+pub mod NumberedForms
