@@ -1,19 +1,18 @@
 -- Walks over the graph of component classes are walks of parents and dependencies.
-use Rattle.std.proofs.Common.{◌≡◌, ◌↔◌, inl, inr, ℕ, zero, suc, ◌+◌, ◌<◌, ◌≤◌, Bool, true, false, List, [], ◌∷◌, ◌++◌, length, get_or, map, slice_get, Vec, Contains, Option, Some, None, option_map, option_to_list, IsTrue, unwrap_or, refl, sym, ap, subst, ◌∙◌, arith, length-append}
+use Rattle.std.proofs.Common.{◌≡◌, inl, inr, ℕ, zero, suc, ◌+◌, ◌<◌, ◌≤◌, Bool, true, false, List, [], ◌∷◌, ◌++◌, length, get_or, map, slice_get, Vec, Contains, Some, None, option_map, option_to_list, IsTrue, unwrap_or, refl, sym, ap, subst, ◌∙◌, arith, length-append}
 use Rattle.std.specs.Prelude.{slice_index_or}
 use Rattle.std.specs.Global.{Global}
 use Rattle.std.proofs.lemmas.Bool.{cases_lt}
 use Rattle.std.proofs.lemmas.List.{length-map, map-append}
 use Rattle.std.proofs.lemmas.Option.{slice_get-map, get_or_from_slice_get, unwrap_or-slice_get}
 use Rattle.dg_num.specs.declared.graph.Graph.{Graph}
-use Rattle.dg_num.specs.Graph.{node_count, successors, row_at, HasEdge, IsSound}
-use Rattle.dg_num.specs.Walks.{Walk, Leads, IsReached, TellsExactly}
+use Rattle.dg_num.specs.Graph.{node_count, successors, row_at, IsSound}
+use Rattle.dg_num.specs.Walks.{Walk, IsReached, TellsExactly}
 use Rattle.dg_decl.specs.declared.document.Doc.{Doc}
-use Rattle.dg_decl.specs.declared.component.Class.{Class}
 use Rattle.dg_decl.specs.Walks as walks
 use Rattle.dg_decl.specs.Walks.{root, step}
 use Rattle.dg_decl.specs.Components.{class_count, class_named, class_of_number, component_classes, dependency_in, deps_of, own_members, parent_of}
-use Rattle.dg_decl.specs.Stages.Dependencies.{stands_on, is_below, StandsOn, BelowByShortWalks}
+use Rattle.dg_decl.specs.Stages.Dependencies.{stands_on, is_below, BelowByShortWalks}
 use Rattle.dg_decl.proofs.NumberBounds.{below_of_each, each_append, each_option, each_filter_map, below_and_then}
 use Rattle.dg_decl.proofs.ComponentLemmas.{class_below, parent_below}
 use Rattle.dg_decl.proofs.MemberLemmas.{the_one, in_front}

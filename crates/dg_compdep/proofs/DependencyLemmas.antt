@@ -1,5 +1,5 @@
 -- The dependencies that earlier lines name.
-use Rattle.std.proofs.Common.{◌≡◌, inl, inr, ℕ, zero, suc, ◌+◌, ◌-◌, ◌<◌, ◌≤◌, ◌==◌, nat_lt, Bool, true, false, cond, not, ◌&&◌, ◌||◌, List, [], ◌∷◌, ◌++◌, length, get_or, map, take, drop, filter, flat_map, slice_get, Option, Some, None, option_map, option_and_then, option_to_list, position, refl, sym, ap, subst, ◌∙◌, arith, add-one, zero-add, append-nil, append_assoc}
+use Rattle.std.proofs.Common.{◌≡◌, ℕ, zero, suc, ◌+◌, ◌-◌, ◌<◌, ◌≤◌, ◌==◌, nat_lt, Bool, true, false, cond, ◌&&◌, ◌||◌, List, [], ◌∷◌, ◌++◌, length, get_or, map, take, filter, flat_map, slice_get, Option, Some, None, option_map, option_and_then, option_to_list, position, refl, sym, ap, ◌∙◌, arith, add-one, zero-add, append-nil, append_assoc}
 use Rattle.std.specs.Option.{option_or, option_map_or}
 use Rattle.std.specs.List.{list_any}
 use Rattle.std.specs.Str.{bytes_eq}
@@ -12,7 +12,7 @@ use Rattle.dg_decl.specs.declared.document.Doc.{Doc}
 use Rattle.dg_decl.specs.declared.item.Item.{Item}
 use Rattle.dg_decl.specs.Document.{Statement, statements, statements_from, open_behind, stands_in}
 use Rattle.dg_decl.specs.Names.{is_called}
-use Rattle.dg_decl.specs.Components.{hilt_count, is_component, component_headers, class_count, number_of_header, header_of, class_of_block, class_around, class_named, entry_point_class, dependency_in, own_members}
+use Rattle.dg_decl.specs.Components.{hilt_count, is_component, component_headers, class_count, number_of_header, header_of, class_of_block, class_around, class_named, entry_point_class, dependency_in}
 use Rattle.dg_decl.specs.declared.violation.Violation.{Violation}
 use Rattle.dg_decl.specs.Stages.Dependencies.{is_named_earlier, bad_depends_on}
 use Rattle.dg_decl.proofs.NumberBounds.{none_is_not_some, same_value, below_and_then, below_or, position_below}

@@ -2,7 +2,7 @@
 use Rattle.std.proofs.Common.{◌≡◌, inl, inr, ℕ, zero, suc, ◌+◌, ◌-◌, ◌<◌, ◌≤◌, ◌==◌, nat_lt, Bool, true, false, cond, ◌&&◌, List, [], ◌∷◌, length, get_or, map, not, take, ◌++◌, append-nil, Option, Some, None, is_some, slice_get, flat_map, if◌then◌else◌, refl, sym, ap, ◌∙◌, arith, zero-add}
 use Rattle.std.specs.List.{filter, find, list_any, position, position_from}
 use Rattle.std.specs.Option.{option_map, option_or, option_map_or, option_and_then, option_to_list, unwrap_or}
-use Rattle.std.proofs.lemmas.Bool.{true≢false, eq-eqb, eqb-true, lt-ltb, le-ltb, cases_lt}
+use Rattle.std.proofs.lemmas.Bool.{true≢false, eq-eqb, eqb-true, le-ltb, cases_lt}
 use Rattle.std.proofs.lemmas.Iterator.Adapters.{position_from-zero}
 use Rattle.std.proofs.Math.Seq.{take-length}
 use Rattle.std.proofs.lemmas.Option.{slice_get_past}
@@ -18,7 +18,7 @@ use Rattle.dg_decl.specs.Names.{outer_name, is_called}
 use Rattle.dg_decl.specs.Components.{hilt_count, hilt_row, class_count, class_of_number, component_classes, component_headers, header_of, header_item, class_name, deps_of, class_named, dependency_in}
 use Rattle.dg_decl.specs.Stages.Names.{instance_name}
 use Rattle.dg_decl.specs.Stages.Session.{opened_before, class_opened, first_of}
-use Rattle.dg_decl.specs.Stages.Links.{Tie, same_tie, tie_of, is_tied, is_tied_before, untied}
+use Rattle.dg_decl.specs.Stages.Links.{Tie, is_tied, is_tied_before, untied}
 use Rattle.dg_decl.proofs.NumberBounds.{none_is_not_some, same_value}
 use Rattle.dg_names.proofs.StatementLemmas.{found_at}
 use Rattle.dg_slots.proofs.ClassLemmas.{class_at, classes_counted}

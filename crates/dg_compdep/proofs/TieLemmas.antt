@@ -58,7 +58,8 @@ asked from class = record { from = from; class = class }
 -- the row at the end counts where no other has its tie
 index_push : (from : Bytes) (class : ℕ) (tie : Tie) (i : ℕ) (table : Table)
     → index_of from class (table ++ (tie, i) ∷ [])
-    ≡ option_or (index_of from class table) (if same_tie (asked from class) tie then Some i else None)
+    ≡ option_or (index_of from class table)
+    (if same_tie (asked from class) tie then Some i else None)
 index_push from class tie i [] = refl
 index_push from class tie i (row ∷ rows) =
     by (same_tie (asked from class) row.0) (index_push from class tie i rows)
@@ -102,7 +103,8 @@ adds_old tie i table b is holds = by (index_of tie.from tie.class table) refl (s
     by None is there = absurd (true≢false (sym there))
     by (Some k) is there = record {
       each = λ from class. same (index_of from class table) k (same_tie (asked from class) tie)
-          (λ e. ap (λ (f : Bytes). index_of f class table) ((bytes_decides from tie.from).0 (and_first
+          (λ e. ap (λ (f : Bytes). index_of f class table)
+          ((bytes_decides from tie.from).0 (and_first
           (bytes_eq from tie.from) (class == tie.class) e))
           ∙ ap (λ c. index_of tie.from c table) (eqb-true class tie.class (and_second (bytes_eq from
           tie.from) (class == tie.class) e))
@@ -140,7 +142,8 @@ finds_next doc ss old new s left notes finds = record {
 }
   where
     step : (o : Option ℕ) (b : Bool) (rest : Option Statement)
-        → option_or (option_or o (if b then Some s.index else None)) (option_map (λ t. t.index) rest)
+        → option_or (option_or o (if b then Some s.index else None))
+        (option_map (λ t. t.index) rest)
         ≡ option_or o (option_map (λ t. t.index) (if b then Some s else rest))
     step (Some k) b rest = refl
     step None true rest = refl

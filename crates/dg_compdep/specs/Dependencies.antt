@@ -1,12 +1,12 @@
 -- The dependencies that lines of a document name, with the classes whose dependencies they are.
-use Rattle.std.specs.Prelude.{◌≡◌, ◌==◌, ℕ, Bool, false, ◌&&◌, ◌||◌, Vec, List, map, Option, None, Some, option_map, option_to_list, flat_map}
+use Rattle.std.specs.Prelude.{◌≡◌, ◌==◌, ℕ, Bool, false, ◌&&◌, ◌||◌, Vec, List, map, option_to_list, flat_map}
 use Rattle.std.specs.List.{filter, list_any}
 use Rattle.std.specs.Option.{option_map_or}
 use Rattle.std.specs.Global.{Global}
 use Rattle.std.specs.Str.{bytes_eq}
 use Rattle.dg_lex.specs.Bytes.{Bytes}
 use Rattle.dg_decl.specs.declared.document.Doc.{Doc}
-use Rattle.dg_decl.specs.Document.{Statement, statements, stands_in}
+use Rattle.dg_decl.specs.Document.{Statement, stands_in}
 use Rattle.dg_decl.specs.declared.component.Class.{Class}
 use Rattle.dg_decl.specs.Components.{header_of, class_around, component_classes, dependency_in}
 use Rattle.dg_decl.specs.Stages.Dependencies.{is_named_earlier}

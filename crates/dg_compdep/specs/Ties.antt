@@ -1,5 +1,5 @@
 -- To which instances lines tie which, in a table, and the numbers of instances by line.
-use Rattle.std.specs.Prelude.{◌≡◌, ℕ, ◌+◌, Bool, if◌then◌else◌, List, [], ◌∷◌, map, Option, None, Some, option_map}
+use Rattle.std.specs.Prelude.{◌≡◌, ℕ, ◌+◌, if◌then◌else◌, List, [], ◌∷◌, map, Option, None, Some, option_map}
 use Rattle.std.specs.List.{filter, find}
 use Rattle.std.specs.Map.{lookup}
 use Rattle.std.specs.Option.{option_or}

@@ -163,7 +163,8 @@ fn push_broken(
     s: &Statement<'_>,
     broken: &mut Vec<Violation>,
 ) -> Result<(), NoMemory>
-    ensures exact { OnOk result (broken.new.items ≡ broken.old.items ++ stage.links_at tied.now s.now) }
+    ensures exact { OnOk result
+        (broken.new.items ≡ broken.old.items ++ stage.links_at tied.now s.now) }
 {
     match links_at(alloc, tied, s)? {
         Some(violation) => Ok(broken.push(violation)?),

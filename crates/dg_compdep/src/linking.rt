@@ -72,7 +72,8 @@ fn linked_to(
     deps: &[u32],
 ) -> Result<Items<u32>, NoMemory>
     requires same { instances.now ≡ tied.now }
-    ensures exact { IfOk result (λ list. list ≡ filter_map (spec.linked tied.now from.now) deps.now) }
+    ensures exact { IfOk result
+        (λ list. list ≡ filter_map (spec.linked tied.now from.now) deps.now) }
 {
     let mut list = Items::new(alloc);
     for class in deps {
@@ -118,7 +119,8 @@ fn push_links(
     lists: &mut Vec<Items<u32>>,
 ) -> Result<(), NoMemory>
     requires same { instances.now ≡ tied.now }
-    ensures exact { OnOk result (lists.new.items ≡ lists.old.items ++ ties.links_by tied.now s.now) }
+    ensures exact { OnOk result
+        (lists.new.items ≡ lists.old.items ++ ties.links_by tied.now s.now) }
 {
     if is_open_line(s.item) {
         lists.push(links_of_line(alloc, instances, tied, s)?)?;

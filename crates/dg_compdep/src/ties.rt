@@ -20,8 +20,8 @@ struct TieKey {
     class: u32,
 }
 
-/// Ties, each with the index of its first line. Contracts see the list of them. To look one up takes
-/// the time of copying and hashing a name, as a rule.
+/// Ties, each with the index of its first line. Contracts see the list of them. To look one up
+/// takes the time of copying and hashing a name, as a rule.
 #[derive(Drop)]
 pub(crate) struct Ties {
     alloc: Global,

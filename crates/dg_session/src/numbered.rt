@@ -145,8 +145,8 @@ impl<'n, 'a> Numbers<'n, 'a> {
         }
     }
 
-    /// The number of a class: 0 to 5 for those whose objects Hilt binds by default, and from 6 on by
-    /// the `class` lines in order. A name that no line declares has the number 0.
+    /// The number of a class: 0 to 5 for those whose objects Hilt binds by default, and from 6 on
+    /// by the `class` lines in order. A name that no line declares has the number 0.
     #[tactic(auto, unfolding(dg_slots::specs::Numbered::class_number))]
     pub fn class_number(&self, name: &[u8]) -> u32
         ensures exact { result ≡ spec.class_number self.now name.now }

@@ -1,6 +1,6 @@
 use Rattle.std.proofs.Common.{ap, length, arith}
 use Rattle.dg_slots.proofs.ClassLemmas.{classes_counted}
-use Rattle.dg_compdep.proofs.BelowLemmas.{tell_more, none_told, all_told}
+use Rattle.dg_compdep.proofs.BelowLemmas.{tell_more, all_told}
 use Rattle.dg_compdep.proofs.below.below.Goals as goal
 
 pub overflow_cast-from-end : goal.overflow_cast-from-end

@@ -1,4 +1,3 @@
-use Rattle.std.proofs.Common.{sym}
 use Rattle.dg_compdep.proofs.DependencyLemmas.{step_requires, step_named, step_broken}
 use Rattle.dg_compdep.proofs.depending.depends.Goals as goal
 

@@ -1,5 +1,5 @@
 use Rattle.std.proofs.Common.{◌≡◌, [], take, flat_map}
-use Rattle.dg_decl.specs.Document.{Statement, statements}
+use Rattle.dg_decl.specs.Document.{statements}
 use Rattle.dg_decl.specs.Stages.Dependencies.{bad_depends_on}
 use Rattle.dg_compdep.specs.Dependencies.{AreBoth, named_by}
 use Rattle.dg_compdep.proofs.depending.depends.Given as goal

@@ -1,4 +1,3 @@
-use Rattle.std.proofs.Common.{sym}
 use Rattle.dg_decl.proofs.ComponentLemmas.{class_below}
 use Rattle.dg_compdep.proofs.depending.leads_back.Goals as goal
 

@@ -1,4 +1,4 @@
-use Rattle.std.proofs.Common.{ap, sym, length, subst, List, ℕ, arith, rules, ◌<◌}
+use Rattle.std.proofs.Common.{ap, sym, length, subst, arith, rules, ◌<◌}
 use Rattle.std.specs.Prelude.{All}
 use Rattle.dg_decl.specs.Components.{class_count}
 use Rattle.dg_slots.proofs.ClassLemmas.{deps_few}

@@ -1,7 +1,6 @@
 use Rattle.std.proofs.Common.{ap, sym, length, get_or, refl, ◌∙◌, ◌++◌, List, ℕ, arith}
 use Rattle.std.specs.List.{filter_map}
 use Rattle.dg_decl.specs.declared.component.Class.{Class}
-use Rattle.dg_decl.specs.declared.component.Exposed.{Exposed}
 use Rattle.dg_decl.specs.Components.{exposed_as}
 use Rattle.dg_slots.proofs.ClassLemmas.{classes_counted}
 use Rattle.dg_compdep.specs.Exposing.{exposed_from}

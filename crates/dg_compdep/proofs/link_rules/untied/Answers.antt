@@ -7,7 +7,8 @@ use Rattle.dg_decl.specs.Stages.Session.{class_opened}
 use Rattle.dg_compdep.proofs.LinkLemmas.{first_lacking}
 use Rattle.dg_compdep.proofs.link_rules.untied.Goals as goal
 
-pub returns-in_ok-first_untied-in-Some-class_opened : goal.returns-in_ok-first_untied-in-Some-class_opened
+pub returns-in_ok-first_untied-in-Some-class_opened
+    : goal.returns-in_ok-first_untied-in-Some-class_opened
 returns-in_ok-first_untied-in-Some-class_opened c =
     let doc = c.args.tied.now in
     let name = c.in-Some.name.now in

@@ -1,4 +1,4 @@
-use Rattle.std.proofs.Common.{◌≡◌, Some, sym, ◌∙◌}
+use Rattle.std.proofs.Common.{◌≡◌, Some, ◌∙◌}
 use Rattle.dg_decl.specs.Document.{statements}
 use Rattle.dg_compdep.specs.Ties.{first_index}
 use Rattle.dg_compdep.proofs.LinkLemmas.{linked_found}

@@ -1,4 +1,4 @@
-use Rattle.std.proofs.Common.{ap, length, is_some, sym, subst, ◌<◌, Option, ℕ, ◌∙◌, arith}
+use Rattle.std.proofs.Common.{ap, length, is_some, ◌∙◌, arith}
 use Rattle.dg_decl.specs.declared.document.Doc.{Doc}
 use Rattle.dg_decl.specs.Components.{class_count, parent_of}
 use Rattle.dg_slots.proofs.ClassLemmas.{classes_counted}

@@ -1,8 +1,7 @@
 use Rattle.std.proofs.Common.{◌++◌, ◌∷◌, [], is_some, ap, ◌∙◌}
 use Rattle.indexmap.proofs.CallerLemmas.{insert_entry-new}
-use Rattle.dg_lex.specs.Bytes.{Bytes}
 use Rattle.dg_decl.specs.Stages.Links.{Tie}
-use Rattle.dg_compdep.specs.Ties.{Table, index_of}
+use Rattle.dg_compdep.specs.Ties.{Table}
 use Rattle.dg_compdep.proofs.TieLemmas.{is_none, key_is, seen, seen_push, found, adds_new, adds_old}
 use Rattle.dg_compdep.proofs.ties.Ties.add.Goals as goal
 
