@@ -1,17 +1,16 @@
 -- The numbers of classes and fields.
 use Rattle.std.proofs.Common.{◌≡◌, ℕ, zero, suc, ◌+◌, ◌==◌, Bool, true, false, cond, List, [], ◌∷◌, get_or, Option, Some, None, slice_get, if◌then◌else◌, refl, sym, ap, ◌∙◌, arith, zero-add}
-use Rattle.std.specs.List.{filter, position, position_from}
+use Rattle.std.specs.List.{filter, position_from}
 use Rattle.std.specs.Option.{option_map, option_and_then, unwrap_or}
 use Rattle.std.specs.Str.{bytes_eq}
 use Rattle.std.specs.Prelude.{codes}
-use Rattle.std.proofs.lemmas.Bool.{true≢false, eq-eqb, eqb-true}
+use Rattle.std.proofs.lemmas.Bool.{eq-eqb, eqb-true}
 use Rattle.std.proofs.lemmas.Iterator.Adapters.{position_from-zero}
 use Rattle.dg_lex.specs.Bytes.{Bytes}
 use Rattle.dg_types.specs.Requests.{Layer}
 use Rattle.dg_types.specs.declared.shape.Shape.TheOpen.{Shape-F}
 use Rattle.dg_decl.specs.declared.document.Doc.{Doc}
 use Rattle.dg_decl.specs.declared.item.Item.{Item}
-use Rattle.dg_decl.specs.declared.item.Param.{Param}
 use Rattle.dg_decl.specs.Document.{Statement, statements, statements_from, open_behind}
 use Rattle.dg_decl.specs.Names.{is_class, declared, class_item_named, default_fields}
 use Rattle.dg_decl.specs.Typing.{is_named}

@@ -1,5 +1,5 @@
 -- Expressions, conditions and trees by numbers, by their forms.
-use Rattle.std.proofs.Common.{◌≡◌, ℤ, List, map, Option, Some, None, ap}
+use Rattle.std.proofs.Common.{◌≡◌, ℤ, List, map, Some, None, ap}
 use Rattle.dg_lex.specs.Bytes.{Bytes}
 use Rattle.dg_decl.specs.declared.document.Doc.{Doc}
 use Rattle.dg_decl.specs.declared.item.Param.{Param}

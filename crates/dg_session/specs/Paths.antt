@@ -1,5 +1,5 @@
--- The types to which paths come, and the entries of classes by name.
-use Rattle.std.specs.Prelude.{ℕ, List, Option, None, Some, option_map, option_and_then}
+-- The types to which paths come.
+use Rattle.std.specs.Prelude.{Option, None, Some}
 use Rattle.std.specs.Borrow.{Bor}
 use Rattle.dg_types.specs.declared.shape.Shape.{Shape}
 use Rattle.dg_types.specs.declared.shape.Shape.TheVariants as shape

@@ -1,4 +1,4 @@
-use Rattle.std.proofs.Common.{ap, ◌∙◌}
+use Rattle.std.proofs.Common.{◌∙◌}
 use Rattle.dg_session.proofs.NumberLemmas.{class_found}
 use Rattle.dg_session.proofs.numbered.Numbers.declared_number.Goals as goal
 

@@ -1,4 +1,4 @@
-use Rattle.std.proofs.Common.{sym, ap, ◌∙◌}
+use Rattle.std.proofs.Common.{sym, ap}
 use Rattle.dg_decl.specs.declared.component.Class.{Class}
 use Rattle.dg_compdep.proofs.LinkLemmas.{class_got, class_lacks}
 use Rattle.dg_session.proofs.SceneLemmas.{parent_past}
