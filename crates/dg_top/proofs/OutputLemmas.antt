@@ -26,7 +26,7 @@ use Rattle.dg_top.specs.declared.command.Program.TheVariants.{Dagrun, Dagc}
 use Rattle.dg_top.specs.declared.command.Command.{Command}
 use Rattle.dg_top.specs.declared.command.Command.TheVariants.{Run, Print, Check}
 use Rattle.dg_top.specs.Commands.{AsksFor, HasNoWords}
-use Rattle.dg_top.specs.Output.{document_limit, too_long_text, bad_line_text, accepted_text, lines_of, Refuses, Gives, IsAnswer, too_long, bad_line, refused, ran, IsOutput, bad_words, answered, HasOneOutput, OneOutput}
+use Rattle.dg_top.specs.Output.{document_limit, too_long_text, bad_line_text, accepted_text, lines_of, IsBroken, IsDiagnosed, IsAcceptedDocument, Refuses, Gives, IsAnswer, too_long, bad_line, refused, ran, IsOutput, bad_words, answered, HasOneOutput, OneOutput}
 use Rattle.dg_top.proofs.ReadingLemmas.{HasReading, is_read, is_bad, first_reading, language_reading, one_first_bad, one_refusal, one_given, bad_isnt_refused, bad_isnt_given, refused_isnt_given}
 
 -- ---- a command has one answer to bytes
@@ -53,14 +53,25 @@ only_answer command bytes s t x y (ran {text = z} within gives) (ran {text = w} 
 abbrev HasAnswer : Command → Bytes → Type 0
 HasAnswer command bytes = (status : Status) × (text : Bytes) × IsAnswer command bytes status text
 
-run_read : (bytes : Bytes) (doc : FirstDoc) → length bytes ≤ document_limit → first_forms.Reads bytes doc → (vs : List FirstViolation) → violations doc.items ≡ vs → HasAnswer Run bytes
-run_read bytes doc within reads [] is = (Ran, report doc.items, ran within record { doc = doc; reads = reads; good = is; is_text = refl })
-run_read bytes doc within reads (v ∷ vs) is =
-    (Refused, first_diagnostics doc.items, refused within record { doc = doc; reads = reads; broken = λ none. absurd (let e : v ∷ vs ≡ [] = sym is ∙ none in cc); is_text = refl })
+run_read : (bytes : Bytes) (doc : FirstDoc) → length bytes ≤ document_limit → IsAcceptedDocument bytes → first_forms.Reads bytes doc → (vs : List FirstViolation) → violations doc.items ≡ vs → HasAnswer Run bytes
+run_read bytes doc within a reads [] is = (Ran, report doc.items, ran within (a, record { doc = doc; reads = reads; good = is; is_text = refl }))
+run_read bytes doc within a reads (v ∷ vs) is =
+    let broken : IsBroken bytes (first_diagnostics doc.items) = record { doc = doc; reads = reads; broken = λ none. absurd (let e : v ∷ vs ≡ [] = sym is ∙ none in cc); is_text = refl } in
+    (Refused, first_diagnostics doc.items, refused within (inr (a, broken)))
 
-run_within : (bytes : Bytes) → length bytes ≤ document_limit → HasReading (first_forms.Reads bytes) (first_forms.FirstBad bytes) → HasAnswer Run bytes
-run_within bytes within (is_read doc reads only none) = run_read bytes doc within reads (violations doc.items) refl
-run_within bytes within (is_bad line first only none) = (BadLine, bad_line_text line, bad_line line within first)
+run_accepted : (bytes : Bytes) → length bytes ≤ document_limit → IsAcceptedDocument bytes → HasReading (first_forms.Reads bytes) (first_forms.FirstBad bytes) → HasAnswer Run bytes
+run_accepted bytes within a (is_read doc reads only none) = run_read bytes doc within a reads (violations doc.items) refl
+run_accepted bytes within a (is_bad line first only none) = (BadLine, bad_line_text line, bad_line line within (inr (a, first)))
+
+run_checked : (bytes : Bytes) (doc : Doc) → length bytes ≤ document_limit → language.Reads bytes doc → (vs : List Violation) → diagnostics doc ≡ vs → HasAnswer Run bytes
+run_checked bytes doc within reads [] is = run_accepted bytes within record { doc = doc; reads = reads; accepted = is } (first_reading bytes)
+run_checked bytes doc within reads (v ∷ vs) is =
+    let broken : IsDiagnosed bytes (lines_of (diagnostics doc)) = record { doc = doc; reads = reads; broken = λ none. absurd (let e : v ∷ vs ≡ [] = sym is ∙ none in cc); is_text = refl } in
+    (Refused, lines_of (diagnostics doc), refused within (inl broken))
+
+run_within : (bytes : Bytes) → length bytes ≤ document_limit → HasReading (language.Reads bytes) (language.FirstBad bytes) → HasAnswer Run bytes
+run_within bytes within (is_read doc reads only none) = run_checked bytes doc within reads (diagnostics doc) refl
+run_within bytes within (is_bad line first only none) = (BadLine, bad_line_text line, bad_line line within (inl first))
 
 print_within : (bytes : Bytes) → length bytes ≤ document_limit → HasReading (language.Reads bytes) (language.FirstBad bytes) → HasAnswer Print bytes
 print_within bytes within (is_read doc reads only none) = (Ran, canonical_text doc, ran within record { doc = doc; reads = reads; is_text = refl })
@@ -76,7 +87,7 @@ check_within bytes within (is_read doc reads only none) = check_read bytes doc w
 check_within bytes within (is_bad line first only none) = (BadLine, bad_line_text line, bad_line line within first)
 
 answer_within : (command : Command) (bytes : Bytes) → length bytes ≤ document_limit → HasAnswer command bytes
-answer_within Run bytes within = run_within bytes within (first_reading bytes)
+answer_within Run bytes within = run_within bytes within (language_reading bytes)
 answer_within Print bytes within = print_within bytes within (language_reading bytes)
 answer_within Check bytes within = check_within bytes within (language_reading bytes)
 
@@ -205,11 +216,21 @@ some_lines : (vs : List Violation) → vs ≢ [] → 0 < length (lines_of vs)
 some_lines [] broken = absurd (broken refl)
 some_lines (v ∷ vs) broken = omega (arith, some_line v, length-append (line_of v) (lines_of vs))
 
-refusal_is_some : (command : Command) (bytes x : Bytes) → Refuses command bytes x → 0 < length x
+broken_is_some : (bytes x : Bytes) → IsBroken bytes x → 0 < length x
 unfolding first_diagnostics
-refusal_is_some Run bytes x f = subst (λ (z : Bytes). 0 < length z) (sym f.is_text) (some_first_lines (violations f.doc.items) f.broken)
+broken_is_some bytes x f = subst (λ (z : Bytes). 0 < length z) (sym f.is_text) (some_first_lines (violations f.doc.items) f.broken)
+
+diagnosed_is_some : (bytes x : Bytes) → IsDiagnosed bytes x → 0 < length x
+diagnosed_is_some bytes x f = subst (λ (z : Bytes). 0 < length z) (sym f.is_text) (some_lines (diagnostics f.doc) f.broken)
+
+run_refusal_is_some : (bytes x : Bytes) → IsDiagnosed bytes x ⊎ (IsAcceptedDocument bytes × IsBroken bytes x) → 0 < length x
+run_refusal_is_some bytes x (inl f) = diagnosed_is_some bytes x f
+run_refusal_is_some bytes x (inr f) = broken_is_some bytes x f.1
+
+refusal_is_some : (command : Command) (bytes x : Bytes) → Refuses command bytes x → 0 < length x
+refusal_is_some Run bytes x f = run_refusal_is_some bytes x f
 refusal_is_some Print bytes x f = absurd f
-refusal_is_some Check bytes x f = subst (λ (z : Bytes). 0 < length z) (sym f.is_text) (some_lines (diagnostics f.doc) f.broken)
+refusal_is_some Check bytes x f = diagnosed_is_some bytes x f
 
 pub some_text : (command : Command) (bytes : Bytes) (s : Status) (x : Bytes) → IsAnswer command bytes s x → (s ≡ Ran → ⊥) → 0 < length x
 unfolding too_long_text bad_line_text
@@ -222,8 +243,8 @@ some_text command bytes s x (ran within gives) isnt = absurd (isnt refl)
 pub report_is_some : (bytes x : Bytes) → Gives Run bytes x → 0 < length x
 unfolding report
 report_is_some bytes x f =
-    let items = f.doc.items in
-    subst (λ (z : Bytes). 0 < length z) (sym f.is_text) (ends_with_line ((replies items 1 [] (asks_of items) ++ codes "cells ") ++ decimal (cell_count items)))
+    let items = f.1.doc.items in
+    subst (λ (z : Bytes). 0 < length z) (sym f.1.is_text) (ends_with_line ((replies items 1 [] (asks_of items) ++ codes "cells ") ++ decimal (cell_count items)))
 
 pub accepted_is_some : (bytes x : Bytes) → Gives Check bytes x → 0 < length x
 unfolding accepted_text

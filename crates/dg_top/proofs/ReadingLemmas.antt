@@ -13,7 +13,7 @@ use Rattle.dg_decl.specs.Canonical.{canonical_text}
 use Rattle.dg_decl.specs.Diagnostics.{diagnostics}
 use Rattle.dg_top.specs.declared.command.Command.{Command}
 use Rattle.dg_top.specs.declared.command.Command.TheVariants.{Run, Print, Check}
-use Rattle.dg_top.specs.Output.{lines_of, HasFirstBad, Refuses, Gives}
+use Rattle.dg_top.specs.Output.{lines_of, IsBroken, IsReported, IsDiagnosed, IsAcceptedDocument, HasFirstBad, Refuses, Gives}
 
 -- one document is read and no line is bad, or one line is the first bad one and no document is read
 pub data HasReading {D : Type 0} (Reads : D → Type 0) (FirstBad : ℕ → Type 0) : Type 0 where
@@ -62,34 +62,94 @@ first_not_both bytes n d f g = not_both (first_forms.Reads bytes) (first_forms.F
 language_not_both : (bytes : Bytes) (n : ℕ) (d : Doc) → language.FirstBad bytes n → language.Reads bytes d → ⊥
 language_not_both bytes n d f g = not_both (language.Reads bytes) (language.FirstBad bytes) n d (language_reading bytes) f g
 
+-- ---- a document that is accepted is read, and has no diagnostics
+
+bad_isnt_accepted : (bytes : Bytes) (n : ℕ) → language.FirstBad bytes n → IsAcceptedDocument bytes → ⊥
+bad_isnt_accepted bytes n f a = language_not_both bytes n a.doc f a.reads
+
+diagnosed_isnt_accepted : (bytes x : Bytes) → IsDiagnosed bytes x → IsAcceptedDocument bytes → ⊥
+diagnosed_isnt_accepted bytes x f a = f.broken (ap diagnostics (language_doc bytes a.doc f.doc a.reads f.reads) ∙ a.accepted)
+
+-- ---- what a run reads and gives
+
+language_line : (bytes : Bytes) (m n : ℕ) → language.FirstBad bytes m → language.FirstBad bytes n → n ≡ m
+language_line bytes m n f g = same_line (language.Reads bytes) (language.FirstBad bytes) m n (language_reading bytes) f g
+
+first_line : (bytes : Bytes) (m n : ℕ) → first_forms.FirstBad bytes m → first_forms.FirstBad bytes n → n ≡ m
+first_line bytes m n f g = same_line (first_forms.Reads bytes) (first_forms.FirstBad bytes) m n (first_reading bytes) f g
+
+one_broken : (bytes x y : Bytes) → IsBroken bytes x → IsBroken bytes y → y ≡ x
+one_broken bytes x y f g = g.is_text ∙ ap (λ (d : FirstDoc). first_diagnostics d.items) (first_doc bytes f.doc g.doc f.reads g.reads) ∙ sym f.is_text
+
+one_reported : (bytes x y : Bytes) → IsReported bytes x → IsReported bytes y → y ≡ x
+one_reported bytes x y f g = g.is_text ∙ ap (λ (d : FirstDoc). report d.items) (first_doc bytes f.doc g.doc f.reads g.reads) ∙ sym f.is_text
+
+one_diagnosed : (bytes x y : Bytes) → IsDiagnosed bytes x → IsDiagnosed bytes y → y ≡ x
+one_diagnosed bytes x y f g = g.is_text ∙ ap (λ (d : Doc). lines_of (diagnostics d)) (language_doc bytes f.doc g.doc f.reads g.reads) ∙ sym f.is_text
+
+broken_isnt_reported : (bytes x y : Bytes) → IsBroken bytes x → IsReported bytes y → ⊥
+broken_isnt_reported bytes x y f g = f.broken (ap (λ (d : FirstDoc). violations d.items) (first_doc bytes g.doc f.doc g.reads f.reads) ∙ g.good)
+
+abbrev RunsBad : Bytes → ℕ → Type 0
+RunsBad bytes n = language.FirstBad bytes n ⊎ (IsAcceptedDocument bytes × first_forms.FirstBad bytes n)
+
+abbrev RunRefuses : Bytes → Bytes → Type 0
+RunRefuses bytes x = IsDiagnosed bytes x ⊎ (IsAcceptedDocument bytes × IsBroken bytes x)
+
+run_line : (bytes : Bytes) (m n : ℕ) → RunsBad bytes m → RunsBad bytes n → n ≡ m
+run_line bytes m n (inl f) (inl g) = language_line bytes m n f g
+run_line bytes m n (inl f) (inr g) = absurd (bad_isnt_accepted bytes m f g.0)
+run_line bytes m n (inr f) (inl g) = absurd (bad_isnt_accepted bytes n g f.0)
+run_line bytes m n (inr f) (inr g) = first_line bytes m n f.1 g.1
+
+run_refusal : (bytes x y : Bytes) → RunRefuses bytes x → RunRefuses bytes y → y ≡ x
+run_refusal bytes x y (inl f) (inl g) = one_diagnosed bytes x y f g
+run_refusal bytes x y (inl f) (inr g) = absurd (diagnosed_isnt_accepted bytes x f g.0)
+run_refusal bytes x y (inr f) (inl g) = absurd (diagnosed_isnt_accepted bytes y g f.0)
+run_refusal bytes x y (inr f) (inr g) = one_broken bytes x y f.1 g.1
+
+run_bad_refused : (bytes : Bytes) (n : ℕ) (x : Bytes) → RunsBad bytes n → RunRefuses bytes x → ⊥
+run_bad_refused bytes n x (inl f) (inl g) = language_not_both bytes n g.doc f g.reads
+run_bad_refused bytes n x (inl f) (inr g) = bad_isnt_accepted bytes n f g.0
+run_bad_refused bytes n x (inr f) (inl g) = diagnosed_isnt_accepted bytes x g f.0
+run_bad_refused bytes n x (inr f) (inr g) = first_not_both bytes n g.1.doc f.1 g.1.reads
+
+run_bad_given : (bytes : Bytes) (n : ℕ) (x : Bytes) → RunsBad bytes n → IsAcceptedDocument bytes → IsReported bytes x → ⊥
+run_bad_given bytes n x (inl f) a g = bad_isnt_accepted bytes n f a
+run_bad_given bytes n x (inr f) a g = first_not_both bytes n g.doc f.1 g.reads
+
+run_refused_given : (bytes x y : Bytes) → RunRefuses bytes x → IsAcceptedDocument bytes → IsReported bytes y → ⊥
+run_refused_given bytes x y (inl f) a g = diagnosed_isnt_accepted bytes x f a
+run_refused_given bytes x y (inr f) a g = broken_isnt_reported bytes x y f.1 g
+
 -- ---- by command
 
 pub one_first_bad : (command : Command) (bytes : Bytes) (m n : ℕ) → HasFirstBad command bytes m → HasFirstBad command bytes n → n ≡ m
-one_first_bad Run bytes m n f g = same_line (first_forms.Reads bytes) (first_forms.FirstBad bytes) m n (first_reading bytes) f g
-one_first_bad Check bytes m n f g = same_line (language.Reads bytes) (language.FirstBad bytes) m n (language_reading bytes) f g
-one_first_bad Print bytes m n f g = same_line (language.Reads bytes) (language.FirstBad bytes) m n (language_reading bytes) f g
+one_first_bad Run bytes m n f g = run_line bytes m n f g
+one_first_bad Check bytes m n f g = language_line bytes m n f g
+one_first_bad Print bytes m n f g = language_line bytes m n f g
 
 pub one_refusal : (command : Command) (bytes x y : Bytes) → Refuses command bytes x → Refuses command bytes y → y ≡ x
-one_refusal Run bytes x y f g = g.is_text ∙ ap (λ (d : FirstDoc). first_diagnostics d.items) (first_doc bytes f.doc g.doc f.reads g.reads) ∙ sym f.is_text
+one_refusal Run bytes x y f g = run_refusal bytes x y f g
 one_refusal Print bytes x y f g = absurd f
-one_refusal Check bytes x y f g = g.is_text ∙ ap (λ (d : Doc). lines_of (diagnostics d)) (language_doc bytes f.doc g.doc f.reads g.reads) ∙ sym f.is_text
+one_refusal Check bytes x y f g = one_diagnosed bytes x y f g
 
 pub one_given : (command : Command) (bytes x y : Bytes) → Gives command bytes x → Gives command bytes y → y ≡ x
-one_given Run bytes x y f g = g.is_text ∙ ap (λ (d : FirstDoc). report d.items) (first_doc bytes f.doc g.doc f.reads g.reads) ∙ sym f.is_text
+one_given Run bytes x y f g = one_reported bytes x y f.1 g.1
 one_given Check bytes x y f g = g.is_text ∙ sym f.is_text
 one_given Print bytes x y f g = g.is_text ∙ ap canonical_text (language_doc bytes f.doc g.doc f.reads g.reads) ∙ sym f.is_text
 
 pub bad_isnt_refused : (command : Command) (bytes : Bytes) (n : ℕ) (x : Bytes) → HasFirstBad command bytes n → Refuses command bytes x → ⊥
-bad_isnt_refused Run bytes n x f g = first_not_both bytes n g.doc f g.reads
+bad_isnt_refused Run bytes n x f g = run_bad_refused bytes n x f g
 bad_isnt_refused Print bytes n x f g = g
 bad_isnt_refused Check bytes n x f g = language_not_both bytes n g.doc f g.reads
 
 pub bad_isnt_given : (command : Command) (bytes : Bytes) (n : ℕ) (x : Bytes) → HasFirstBad command bytes n → Gives command bytes x → ⊥
-bad_isnt_given Run bytes n x f g = first_not_both bytes n g.doc f g.reads
+bad_isnt_given Run bytes n x f g = run_bad_given bytes n x f g.0 g.1
 bad_isnt_given Check bytes n x f g = language_not_both bytes n g.doc f g.reads
 bad_isnt_given Print bytes n x f g = language_not_both bytes n g.doc f g.reads
 
 pub refused_isnt_given : (command : Command) (bytes x y : Bytes) → Refuses command bytes x → Gives command bytes y → ⊥
-refused_isnt_given Run bytes x y f g = f.broken (ap (λ (d : FirstDoc). violations d.items) (first_doc bytes g.doc f.doc g.reads f.reads) ∙ g.good)
+refused_isnt_given Run bytes x y f g = run_refused_given bytes x y f g.0 g.1
 refused_isnt_given Print bytes x y f g = f
 refused_isnt_given Check bytes x y f g = f.broken (ap diagnostics (language_doc bytes g.doc f.doc g.reads f.reads) ∙ g.accepted)

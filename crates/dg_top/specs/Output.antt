@@ -1,5 +1,5 @@
 -- The status and the text that belong to a program, its words and the bytes of its input.
-use Rattle.std.specs.Prelude.{◌≡◌, ◌≢◌, ◌<◌, ◌≤◌, ℕ, List, [], ◌∷◌, ◌++◌, length, codes, decimal}
+use Rattle.std.specs.Prelude.{◌≡◌, ◌≢◌, ◌⊎◌, ◌<◌, ◌≤◌, ℕ, List, [], ◌∷◌, ◌++◌, length, codes, decimal}
 use Rattle.std.specs.List.{flat_map}
 use Rattle.dg_lex.specs.Bytes.{Bytes, line_end}
 use Rattle.dg_early.specs.declared.document.Doc.{Doc as FirstDoc}
@@ -37,7 +37,7 @@ accepted_text = codes "accepted" ++ line_end ∷ []
 abbrev pub lines_of : List Violation → Bytes
 lines_of broken = flat_map line_of broken
 
--- ---- a document of the first forms, which a run of today reads
+-- ---- a document of the first forms, which answer an accepted document today
 
 -- it breaks rules, and this text is the lines of its violations
 pub record IsBroken (bytes text : Bytes) : Type 0 where
@@ -68,6 +68,12 @@ pub record IsDiagnosed (bytes text : Bytes) : Type 0 where
   pub broken : diagnostics doc ≢ []
   pub is_text : text ≡ lines_of (diagnostics doc)
 
+-- it breaks none
+pub record IsAcceptedDocument (bytes : Bytes) : Type 0 where
+  pub doc : Doc
+  pub reads : language.Reads bytes doc
+  pub accepted : IsAccepted doc
+
 -- it breaks none, and this text says so
 pub record IsApproved (bytes text : Bytes) : Type 0 where
   pub doc : Doc
@@ -77,21 +83,25 @@ pub record IsApproved (bytes text : Bytes) : Type 0 where
 
 -- ---- what is read for a command, and what it gives
 
+-- A run reads and judges a document as a check does. A document that is accepted is answered by the
+-- first forms, until the whole language runs: they may find a line bad that the language reads.
+
 -- line n of a document is the first bad one
 abbrev pub HasFirstBad : Command → Bytes → ℕ → Type 0
-HasFirstBad Run bytes n = first_forms.FirstBad bytes n
+HasFirstBad Run bytes n = language.FirstBad bytes n
+    ⊎ (IsAcceptedDocument bytes × first_forms.FirstBad bytes n)
 HasFirstBad Print bytes n = language.FirstBad bytes n
 HasFirstBad Check bytes n = language.FirstBad bytes n
 
 -- a document is read, and is refused with this text
 abbrev pub Refuses : Command → Bytes → Bytes → Type 0
-Refuses Run bytes text = IsBroken bytes text
+Refuses Run bytes text = IsDiagnosed bytes text ⊎ (IsAcceptedDocument bytes × IsBroken bytes text)
 Refuses Print bytes text = ⊥
 Refuses Check bytes text = IsDiagnosed bytes text
 
 -- a document is read, and gives this text
 abbrev pub Gives : Command → Bytes → Bytes → Type 0
-Gives Run bytes text = IsReported bytes text
+Gives Run bytes text = IsAcceptedDocument bytes × IsReported bytes text
 Gives Print bytes text = IsPrinted bytes text
 Gives Check bytes text = IsApproved bytes text
 

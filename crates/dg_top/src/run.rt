@@ -15,9 +15,11 @@ use dg_io::{Gate, Sink, Source};
 use std::alloc::Global;
 
 /// Reads a document from the source, and writes its diagnostics or the replies to its asks to the
-/// sink. The words are those of the command line without the program's name: there are none. It
-/// reads and writes in the order of the statuses: words, then the source to its end, then the sink.
-/// The gates, at least 64, are told nothing, since one thread does all work.
+/// sink. The whole language reads and judges the document; one that is accepted is answered by the
+/// first forms, which may find a line bad. The words are those of the command line without the
+/// program's name: there are none. It reads and writes in the order of the statuses: words, then
+/// the source to its end, then the sink. The gates, at least 64, are told nothing, since one thread
+/// does all work.
 pub fn run_top<S: Source, K: Sink, G: Gate + Send>(
     alloc: Global,
     words: &[String],

@@ -172,6 +172,19 @@ x
 }
 
 #[test]
+fn the_whole_language_judges_and_the_first_forms_answer(rt: HostRuntime) -> Result<(), Fail> {
+    let text = b"module M {\n  provides t() : Text = 3\n}\n";
+    let (status, sink) = run(rt.alloc(), &[], text, calm(4096))?;
+    assert_eq!(rt; status, Status::Refused);
+    assert_eq!(rt; sink.bytes(), b"[Own/TypeMismatch] line 2\n".as_slice());
+
+    let (status, sink) = run(rt.alloc(), &[], b"scope S\n", calm(4096))?;
+    assert_eq!(rt; status, Status::BadLine);
+    assert_eq!(rt; sink.bytes(), b"bad line 1\n".as_slice());
+    Ok(())
+}
+
+#[test]
 fn each_status_has_its_code(rt: HostRuntime) {
     let all = [
         Status::Ran,

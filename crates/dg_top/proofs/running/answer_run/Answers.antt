@@ -1,16 +1,19 @@
 use Rattle.std.proofs.lemmas.Result.{IfOk-weaker}
-use Rattle.dg_top.specs.declared.command.Command.TheVariants.{Run}
-use Rattle.dg_top.proofs.AnswerLemmas.{answer_read, answer_bad}
+use Rattle.dg_top.proofs.AnswerLemmas.{answer_unaccepted, is_accepted, answer_by_first_forms}
 use Rattle.dg_top.proofs.running.answer_run.Goals as goal
 
-pub returns-in-Ok-answer_items : goal.returns-in-Ok-answer_items
-returns-in-Ok-answer_items c =
+pub returns-then-is_ran : goal.returns-then-is_ran
+returns-then-is_ran c =
+    let bytes = c.args.bytes.now in
+    let checked = c.in_ok-checked.checked in
+    let a = is_accepted bytes checked.status checked.text.items c.in_ok-checked.ensures.exact (c.is_ran.ensures.ran c.if-is_ran.true) in
     record {
-      exact = answer_read c.args.bytes.now c.in-Ok.doc c.as_slice.result.now c.in-Ok-answer_items.answer.status c.in-Ok-answer_items.answer.text.items c.requires c.in-Ok.ensures.exact c.as_slice.ensures c.in-Ok-answer_items.ensures.exact;
+      exact = IfOk-weaker c.answer_first_forms.result _ _ (λ answer h. answer_by_first_forms bytes answer.status answer.text.items c.requires a h) c.answer_first_forms.ensures.exact;
     }
 
-pub returns-in-Err-BadLine : goal.returns-in-Err-BadLine
-returns-in-Err-BadLine c =
+pub returns : goal.returns
+returns c =
+    let checked = c.in_ok-checked.checked in
     record {
-      exact = IfOk-weaker c.bad_line.result _ _ (λ a h. answer_bad Run c.args.bytes.now c.in-Err-BadLine.line a.status a.text.items c.requires (rw c.in-Err-BadLine.field-0-is at c.in-Err-BadLine.ensures.cause) h.0 h.1) c.bad_line.ensures.exact;
+      exact = answer_unaccepted c.args.bytes.now checked.status checked.text.items c.in_ok-checked.ensures.exact (c.is_ran.ensures.other c.if-is_ran.false);
     }
