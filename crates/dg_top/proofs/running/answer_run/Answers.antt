@@ -11,8 +11,8 @@ returns-then-is_ran c =
       exact = IfOk-weaker c.answer_first_forms.result _ _ (λ answer h. answer_by_first_forms bytes answer.status answer.text.items c.requires a h) c.answer_first_forms.ensures.exact;
     }
 
-pub returns : goal.returns
-returns c =
+pub returns-else-is_ran : goal.returns-else-is_ran
+returns-else-is_ran c =
     let checked = c.in_ok-checked.checked in
     record {
       exact = answer_unaccepted c.args.bytes.now checked.status checked.text.items c.in_ok-checked.ensures.exact (c.is_ran.ensures.other c.if-is_ran.false);
