@@ -61,10 +61,7 @@ fn next_number(number: u32, s: &Statement<'_>) -> u32
 }
 
 /// The number of the class that each of some statements declares.
-fn classes_of(
-    alloc: Global,
-    statements: &[Statement<'_>],
-) -> Result<Vec<Option<u32>>, NoMemory>
+fn classes_of(alloc: Global, statements: &[Statement<'_>]) -> Result<Vec<Option<u32>>, NoMemory>
     requires few { length statements.now < 2 ^ 31 }
     ensures exact { IfOk result (λ classes. classes.items ≡ classes_from 6 statements.now) }
 {
