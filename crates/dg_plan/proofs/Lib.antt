@@ -1,0 +1,4 @@
+pub mod ClassLemmas
+pub mod LevelLemmas
+pub mod ListLemmas
+pub mod PlanLemmas

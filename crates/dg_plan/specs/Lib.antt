@@ -1,0 +1,4 @@
+pub mod Classes
+pub mod Counted
+pub mod Entries
+pub mod PlanLines
