@@ -26,7 +26,7 @@ use Rattle.dg_decl.specs.declared.graph.NodeKind.TheVariants as node
 use Rattle.dg_decl.specs.Document.{Statement, statements}
 use Rattle.dg_decl.specs.Names.{item_at, class_item_named, params_of, result_of}
 use Rattle.dg_decl.specs.Components.{chain, root_first, carries, deps_of}
-use Rattle.dg_decl.specs.Lookup.{owned, explicit_default, explicit_argument, explicit_member, explicit_at, explicit, explicit_in_chain, inside_key, contributions_in, contributions, is_declared, is_optional_declared, injected_scope, injected_with, injected_item, injected_base, injected, found_of_core, find_without_explicit, found_among, find as find_key}
+use Rattle.dg_decl.specs.Lookup.{owned, is_header_of, explicit_default, explicit_exposed, explicit_argument, explicit_member, explicit_at, explicit, explicit_in_chain, inside_key, contributions_in, contributions, is_declared, is_optional_declared, injected_scope, injected_with, injected_item, injected_base, injected, found_of_core, find_without_explicit, found_among, find as find_key}
 use Rattle.dg_decl.specs.Graph.{node_of, mode_of_inner, inner_of, Dependency, asked, of_param, of_params, of_entry, of_binding, contribution_of, of_contributions, of_inside, is_nothing, deps, node_found, target}
 use Rattle.dg_decl.proofs.MemberLemmas.{none_in, in_front, the_one, out_map, out_filter, out_flat_map, out_option, out_option_map, out_and_then, out_filter_map, out_list_of, out_if, out_reverse}
 use Rattle.dg_slots.specs.Plans.{through}
@@ -34,35 +34,63 @@ use Rattle.dg_eval.proofs.InputLists.{found_is}
 
 -- ---- who owns what is bound
 
-owner_is : (c : ℕ) (b : BindRef) (o : Owned) → owned c b ≡ o → o.owner ≡ c
-owner_is c b o e = sym (ap (λ (o : Owned). o.owner) e)
+-- each of some owned bindings is that of a class
+record AllOf (c : ℕ) (os : List Owned) : Type 0 where
+  each : (o : Owned) → Contains os o → o.owner ≡ c
 
-stated_owner : (doc : Doc) (c : ℕ) (k : Key) (s : Statement) (o : Owned)
-    → Contains (explicit_at doc c k s) o → o.owner ≡ c
-stated_owner doc c k s o h =
-    elim (Contains-append_cases _ (explicit_member doc c k s) o h) [
-      | inl front ↦ elim (Contains-append_cases _ (explicit_argument doc c k s) o front) [
-        | inl e ↦ (let w = out_if _ _ o e in
-            let m = out_map (λ (e : Exposed). owned c (binding.Exposed e.dep e.entry)) _ o w.1 in
-            owner_is c (binding.Exposed m.0.dep m.0.entry) o m.2)
-        | inr a ↦ (let w = out_if _ _ o a in
-            let m = out_map (λ place. owned c (binding.Arg place)) _ o w.1 in
-            owner_is c (binding.Arg m.0) o m.2)
-      ]
-      | inr m ↦ (let b = out_map (λ (b : Bind). owned c (binding.Member b.item)) _ o m in
-          owner_is c (binding.Member b.0.item) o b.2)
-    ]
+no_owned : (c : ℕ) → AllOf c []
+no_owned c = record { each = λ o h. absurd (none_in o h) }
 
-explicit_owner : (doc : Doc) (c : ℕ) (k : Key) (o : Owned) → Contains (explicit doc c k) o
-    → o.owner ≡ c
+map_owned : {A : Type 0} (c : ℕ) (f : A → BindRef) (xs : List A)
+    → AllOf c (map (λ x. owned c (f x)) xs)
+map_owned c f xs = record {
+  each = λ o h. sym (ap (λ (o : Owned). o.owner) (out_map (λ x. owned c (f x)) xs o h).2);
+}
+
+if_owned : (c : ℕ) (b : Bool) (os : List Owned) → AllOf c os → AllOf c (cond b os [])
+if_owned c true os all = all
+if_owned c false os all = no_owned c
+
+append_owned : (c : ℕ) (os ps : List Owned) → AllOf c os → AllOf c ps → AllOf c (os ++ ps)
+append_owned c os ps a b = record {
+  each = λ o h. elim (Contains-append_cases os ps o h) [
+    | inl front ↦ a.each o front
+    | inr later ↦ b.each o later
+  ];
+}
+
+exposed_owned : (doc : Doc) (c : ℕ) (k : Key) → AllOf c (explicit_exposed doc c k)
+exposed_owned doc c k = map_owned c (λ (e : Exposed). binding.Exposed e.dep e.entry) _
+
+argument_owned : (doc : Doc) (c : ℕ) (k : Key) (s : Statement)
+    → AllOf c (explicit_argument doc c k s)
+argument_owned doc c k s = if_owned c _ _ (map_owned c binding.Arg _)
+
+member_owned : (doc : Doc) (c : ℕ) (k : Key) (s : Statement) → AllOf c (explicit_member doc c k s)
+member_owned doc c k s = map_owned c (λ (b : Bind). binding.Member b.item) _
+
+default_owned : (doc : Doc) (c : ℕ) (k : Key) → AllOf c (explicit_default doc c k)
+default_owned doc c k = map_owned c (λ b. binding.Default) _
+
+stated_owned : (doc : Doc) (c : ℕ) (k : Key) (s : Statement) → AllOf c (explicit_at doc c k s)
+stated_owned doc c k s =
+    append_owned c _ (explicit_member doc c k s)
+    (append_owned c _ (explicit_argument doc c k s)
+    (if_owned c (is_header_of doc c s) (explicit_exposed doc c k) (exposed_owned doc c k))
+    (argument_owned doc c k s))
+    (member_owned doc c k s)
+
+flat_owned : {A : Type 0} (c : ℕ) (f : A → List Owned) (xs : List A) → ((x : A) → AllOf c (f x))
+    → AllOf c (flat_map f xs)
+flat_owned c f xs all = record {
+  each = λ o h. (let x = out_flat_map f xs o h in (all x.0).each o x.2);
+}
+
+explicit_all : (doc : Doc) (c : ℕ) (k : Key) → AllOf c (explicit doc c k)
 unfolding explicit
-explicit_owner doc c k o h =
-    elim (Contains-append_cases (explicit_default doc c k) _ o h) [
-      | inl d ↦ (let m = out_map (λ b. owned c binding.Default) _ o d in
-          owner_is c binding.Default o m.2)
-      | inr r ↦ (let s = out_flat_map (explicit_at doc c k) (statements doc) o r in
-          stated_owner doc c k s.0 o s.2)
-    ]
+explicit_all doc c k =
+    append_owned c (explicit_default doc c k) _ (default_owned doc c k)
+    (flat_owned c (explicit_at doc c k) (statements doc) (λ s. stated_owned doc c k s))
 
 -- a class stands on the chain of another
 abbrev On : Doc → ℕ → ℕ → Type 0
@@ -78,15 +106,17 @@ explicit_on : (doc : Doc) (c : ℕ) (k : Key) (o : Owned) → Contains (explicit
 unfolding explicit_in_chain
 explicit_on doc c k o h =
     let a = out_flat_map (λ a. explicit doc a k) (root_first doc c) o h in
-    owner_on doc c a.0 o a.1 (explicit_owner doc a.0 k o a.2)
+    owner_on doc c a.0 o a.1 ((explicit_all doc a.0 k).each o a.2)
+
+contributed_all : (doc : Doc) (c : ℕ) (k : Key) → AllOf c (contributions_in doc k c)
+contributed_all doc c k = map_owned c (λ (b : Bind). binding.Member b.item) _
 
 contribution_on : (doc : Doc) (c : ℕ) (k : Key) (o : Owned) → Contains (contributions doc c k) o
     → On doc c o.owner
 unfolding contributions
 contribution_on doc c k o h =
     let a = out_flat_map (contributions_in doc k) (root_first doc c) o h in
-    let m = out_map (λ (b : Bind). owned a.0 (binding.Member b.item)) _ o a.2 in
-    owner_on doc c a.0 o a.1 (owner_is a.0 (binding.Member m.0.item) o m.2)
+    owner_on doc c a.0 o a.1 ((contributed_all doc a.0 k).each o a.2)
 
 itself_on : (doc : Doc) (c : ℕ) → On doc c c
 unfolding chain

@@ -20,7 +20,7 @@ use Rattle.dg_decl.specs.Limits.{is_open_line}
 use Rattle.dg_decl.specs.Names.{outer_name, is_called, declared, params_of}
 use Rattle.dg_decl.specs.Components.{hilt_count, is_component, component_headers, number_of_header, class_named, class_name, parent_of, deps_of, walk, is_number}
 use Rattle.dg_decl.specs.Diagnostics.{diagnostics, IsAccepted}
-use Rattle.dg_decl.specs.Stages.Names.{instance_name, stands_before, Mention, mention, component_class, mentions, is_component_item, is_defined_component_item, is_known, duplicate_name, unknown_name, names_stage}
+use Rattle.dg_decl.specs.Stages.Names.{instance_name, stands_before, Mention, mention, component_class, in_expr, mentions, is_component_item, is_defined_component_item, is_known, duplicate_name, unknown_name, names_stage}
 use Rattle.dg_decl.specs.Stages.Types.{types_stage}
 use Rattle.dg_decl.specs.Stages.Components.{at_line, components_stage}
 use Rattle.dg_decl.specs.Stages.Dependencies.{dependencies_stage}
@@ -59,7 +59,7 @@ session_of_accepted doc e =
     let l = first_nil (links_stage doc) _ s.1 in
     record { names = a.0; session = s.0; links = l.0 }
 
-none_there : {A : Type 0} (x : A) (xs : List A) → xs ≡ [] → Contains xs x → ⊥
+pub none_there : {A : Type 0} (x : A) (xs : List A) → xs ≡ [] → Contains xs x → ⊥
 none_there {A} x xs e c = let P : List A → Type 0 = λ zs. Contains zs x in none_in x (subst P e c)
 
 map_nil : {A B : Type 0} (f : A → B) (xs : List A) → map f xs ≡ [] → xs ≡ []
@@ -256,9 +256,10 @@ class_known doc none i l block (item.OpenLine n class parent args) stands h =
     known_class doc [] class
     (true_from_ne_false (is_known doc [] component_class class) (λ fails.
     none_there (at_line rule.UnknownName s class) (unknown_name doc s) unknown
-    (in_map (λ (m : Mention). at_line rule.UnknownName s m.name) _ m
-    (in_filter (λ (m : Mention). not (is_known doc [] m.wanted m.name)) _ m (in_front m _)
-    (ap not fails)))))
+    (in_map (λ (m : Mention). at_line rule.UnknownName s m.name)
+    (filter (λ (m : Mention). not (is_known doc [] m.wanted m.name)) (mentions s.item)) m
+    (in_filter (λ (m : Mention). not (is_known doc [] m.wanted m.name)) (mentions s.item) m
+    (in_front m (flat_map (λ a. in_expr a.value) args)) (ap not fails)))))
 class_known doc none i l block x stands h = absurd (false≢true h)
 
 -- ---- what a line opens
