@@ -12,6 +12,7 @@ use Rattle.dg_decl.specs.declared.graph.Node.{Node}
 use Rattle.dg_decl.specs.declared.graph.NodeKind.{NodeKind}
 use Rattle.dg_decl.specs.declared.graph.NodeKind.TheVariants as node
 use Rattle.dg_decl.specs.declared.violation.Rule.TheVariants as rule
+use Rattle.dg_decl.specs.Diagnostics.{IsAccepted}
 use Rattle.dg_decl.specs.Components.{class_count, parent_of, walk, ancestors, chain, is_number}
 use Rattle.dg_decl.specs.Graph.{Dependency, deps, target, node_found, node_of, nodes, number_of, same_node}
 use Rattle.dg_decl.specs.Stages.Bindings.{at_request, many_text, scoped_class_text, missing_binding, duplicate_bindings, incompatibly_scoped_bindings, bindings_at, bindings_stage}
@@ -21,7 +22,7 @@ use Rattle.dg_decl.proofs.NodeEquality.{node_decides}
 use Rattle.dg_slots.specs.declared.plan.Input.{Input}
 use Rattle.dg_slots.specs.declared.plan.Slot.{Slot}
 use Rattle.dg_slots.specs.declared.session.Inst.{Inst}
-use Rattle.dg_slots.specs.Plans.{level_of, through, input_of, inputs_of, slot_of, slots_of}
+use Rattle.dg_slots.specs.Plans.{level_of, through, input_of, inputs_of, slot_of, slots_of, plan_of}
 use Rattle.dg_slots.specs.Sessions.{insts_of}
 use Rattle.dg_eval.specs.World.{inst_at, class_of_inst, parent_of_inst, chain_of_inst, up, link}
 use Rattle.dg_eval.specs.Meaning.{node_at, Target, target_of, asking_inst}
@@ -219,6 +220,14 @@ each_given doc none n among d c =
     let f = finds_slot doc none n d among c in
     (input_to doc n d f.found f.slot, input_is doc n d f.found f.slot f.is_target f.is_slot)
 
+-- the input of a dependency stands at the same index
+input_at : (doc : Doc) → bindings_stage doc ≡ [] → (n : Node) (m : ℕ) (d : Dependency) (x : Input)
+    → Contains (nodes doc) n → slice_get (deps doc n) m ≡ Some d → input_of doc n d ≡ Some x
+    → slice_get (inputs_of doc n) m ≡ Some x
+input_at doc none n m d x among at is =
+    given_at (input_of doc n) (deps doc n) m (each_given doc none n among)
+    ∙ ap (option_and_then (input_of doc n)) at ∙ is
+
 -- the instance in which the dependencies of a node are looked up is one of the class in which they
 -- are
 counted_is : (doc : Doc) → SessionFindsNothing doc → (i c in_class : ℕ) (o : Option ℕ)
@@ -269,9 +278,8 @@ inputs_are_look_ups doc accepted i k m n d asked =
     let stands = chains_agree doc session from.0 d.class f.found.class place.0 from.2 place.1 in
     record {
       input = input_to doc n d f.found f.slot;
-      is_input = given_at (input_of doc n) (deps doc n) m (each_given doc none n among)
-          ∙ ap (option_and_then (input_of doc n)) asked.is_dependency
-          ∙ input_is doc n d f.found f.slot f.is_target f.is_slot;
+      is_input = input_at doc none n m d (input_to doc n d f.found f.slot) among
+          asked.is_dependency (input_is doc n d f.found f.slot f.is_target f.is_slot);
       found = f.found;
       is_slot = number_is (nodes doc) f.found f.slot f.is_slot;
       inst = stands.inst;
@@ -291,41 +299,44 @@ no_input_is_left_out doc accepted k n is =
 -- ---- the plan
 
 slot_of_node : (doc : Doc) (k : ℕ) → slot_at doc k ≡ option_map (slot_of doc) (node_at doc k)
-unfolding slots_of
+unfolding plan_of slots_of
 slot_of_node doc k = slice_get-map (slot_of doc) (nodes doc) k
 
-input_got : (doc : Doc) (n : Node) (x : Input) → Contains (inputs_of doc n) x
-    → (d : Dependency) × Contains (deps doc n) d × (input_of doc n d ≡ Some x)
-input_got doc n x c = out_filter_map (input_of doc n) (deps doc n) x c
-
-dependency_place : (ds : List Dependency) (d : Dependency) → Contains ds d
+place_of : (ds : List Dependency) (d : Dependency) → Contains ds d
     → (m : ℕ) × (slice_get ds m ≡ Some d)
-dependency_place ds d c = (c.0, slice_get-get_or ds c.0 d c.1 ∙ ap Some c.2)
+place_of ds d c = (c.0, slice_get-get_or ds c.0 d c.1 ∙ ap Some c.2)
+
+same_leads : (doc : Doc) (i m : ℕ) (n : Node) (d : Dependency) (x : Input)
+    → InputLeads doc i m n d → slice_get (inputs_of doc n) m ≡ Some x → LeadsToSlot doc i x
+same_leads doc i m n d x w is =
+    let same : w.input ≡ x = same_Some w.input x (sym w.is_input ∙ is) in
+    let P : Input → Type 0 = LeadsToSlot doc i in
+    subst P same (record {
+      slot = slot_of doc w.found;
+      is_slot = slot_of_node doc w.input.slot ∙ ap (option_map (slot_of doc)) w.is_slot;
+      inst = w.inst;
+      is_inst = w.is_inst;
+      class = w.class;
+    })
+
+node_leads : (doc : Doc) → IsAccepted doc → (i k : ℕ) (n : Node) (x : Input)
+    → node_at doc k ≡ Some n → class_of_inst doc i ≡ Some n.class → Contains (inputs_of doc n) x
+    → LeadsToSlot doc i x
+node_leads doc accepted i k n x is class c =
+    let d = out_filter_map (input_of doc n) (deps doc n) x c in
+    let m = place_of (deps doc n) d.0 d.1 in
+    let w = inputs_are_look_ups doc accepted i k m.0 n d.0 (record {
+      is_node = is;
+      class = class;
+      is_dependency = m.1;
+    }) in
+    let among = in_got (nodes doc) k n is in
+    let none = (stages_of_accepted doc accepted).bindings in
+    same_leads doc i m.0 n d.0 x w (input_at doc none n m.0 d.0 x among m.1 d.2)
 
 pub inputs_lead_to_slots : InputsLeadToSlots
 inputs_lead_to_slots doc accepted i k s x is class c =
     let n = out_option_map (slot_of doc) (node_at doc k) s (sym (slot_of_node doc k) ∙ is) in
-    let of_class : n.0.class ≡ s.class = ap (λ (s : Slot). s.class) n.2 in
-    let P : List Input → Type 0 = λ xs. Contains xs x in
-    let among : Contains (inputs_of doc n.0) x = subst P (sym (ap (λ (s : Slot). s.inputs) n.2)) c in
-    let d = input_got doc n.0 x among in
-    let m = dependency_place (deps doc n.0) d.0 d.1 in
-    let w = inputs_are_look_ups doc accepted i k m.0 n.0 d.0 (record {
-      is_node = n.1;
-      class = class ∙ ap Some (sym of_class);
-      is_dependency = m.1;
-    }) in
-    let same : w.input ≡ x = same_Some w.input x (sym w.is_input
-    ∙ given_at (input_of doc n.0) (deps doc n.0) m.0
-    (each_given doc (stages_of_accepted doc accepted).bindings n.0
-    (in_got (nodes doc) k n.0 n.1))
-    ∙ ap (option_and_then (input_of doc n.0)) m.1 ∙ d.2) in
-    record {
-      slot = slot_of doc w.found;
-      is_slot = slot_of_node doc x.slot
-          ∙ ap (option_map (slot_of doc)) (ap (λ (x : Input). node_at doc x.slot) (sym same)
-          ∙ w.is_slot);
-      inst = w.inst;
-      is_inst = ap (inst_led doc i) (sym same) ∙ w.is_inst;
-      class = w.class;
-    }
+    let P : Slot → Type 0 = λ s. class_of_inst doc i ≡ Some s.class → Contains s.inputs x
+    → LeadsToSlot doc i x in
+    subst P n.2 (node_leads doc accepted i k n.0 x n.1) class c

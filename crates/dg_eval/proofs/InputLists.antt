@@ -3,9 +3,8 @@ use Rattle.std.proofs.Common.{◌≡◌, inl, inr, ℕ, zero, suc, ◌+◌, ◌<
 use Rattle.std.specs.List.{cons_option, list_any, position_or_len}
 use Rattle.std.proofs.lemmas.Bool.{false≢true, lt-ltb, le-ltb, cases_lt}
 use Rattle.std.proofs.lemmas.Option.{none-some, same_Some, slice_get-get_or}
-
-pub none_in : {A : Type 0} (x : A) → Contains [] x → ⊥
-none_in x c = (let lt : c.0 < 0 = c.1 in omega arith)
+use Rattle.dg_decl.proofs.NodeWalks.{in_rest}
+use Rattle.dg_decl.proofs.MemberLemmas.{in_front}
 
 -- ---- the place of the first that passes
 
@@ -88,17 +87,14 @@ at_place p xs k e = first_at p xs k (sym (position_is p xs) ∙ e)
 abbrev pub EachGiven : {A B : Type 0} → (A → Option B) → List A → Type 0
 EachGiven {A} {B} f xs = (x : A) → Contains xs x → (y : B) × (f x ≡ Some y)
 
-in_rest : {A : Type 0} (x y : A) (xs : List A) → Contains xs x → Contains (y ∷ xs) x
-in_rest x y xs c = (suc c.0, omega (arith, c.1), c.2)
-
 pub given_at : {A B : Type 0} (f : A → Option B) (xs : List A) (k : ℕ) → EachGiven f xs
     → slice_get (filter_map f xs) k ≡ option_and_then f (slice_get xs k)
 given_at f [] k each = refl
 given_at f (x ∷ xs) zero each =
-    let y = each x (0, omega arith, refl) in
+    let y = each x (in_front x xs) in
     ap (λ o. slice_get (cons_option o (filter_map f xs)) 0) y.1 ∙ sym y.1
 given_at f (x ∷ xs) (suc k) each =
-    let y = each x (0, omega arith, refl) in
+    let y = each x (in_front x xs) in
     ap (λ o. slice_get (cons_option o (filter_map f xs)) (suc k)) y.1
     ∙ given_at f xs k (λ z c. each z (in_rest z x xs c))
 
@@ -106,7 +102,7 @@ pub given_length : {A B : Type 0} (f : A → Option B) (xs : List A) → EachGiv
     → length (filter_map f xs) ≡ length xs
 given_length f [] each = refl
 given_length f (x ∷ xs) each =
-    let y = each x (0, omega arith, refl) in
+    let y = each x (in_front x xs) in
     ap (λ o. length (cons_option o (filter_map f xs))) y.1
     ∙ ap suc (given_length f xs (λ z c. each z (in_rest z x xs c)))
 

@@ -365,6 +365,20 @@ called_opens : (n : Bytes) (i l : ℕ) (block : Option ℕ) (x : Item)
 called_opens n i l block (item.OpenLine m class parent args) h = refl
 called_opens n i l block x h = absurd (false≢true h)
 
+-- a line that opens an instance has the number of that instance
+numbered_line : (doc : Doc) (s : Statement) → Contains (statements doc) s
+    → is_open_line s.item ≡ true
+    → (k : ℕ) × (number_of_line doc s ≡ Some k) × (slice_get (open_lines doc) k ≡ Some s)
+numbered_line doc s stands h =
+    let here : Statement → Bool = λ t. t.index == s.index in
+    let among = in_filter (λ (t : Statement). is_open_line t.item) (statements doc) s stands h in
+    let place = has_place here (open_lines doc) s among (eq-eqb s.index s.index refl) in
+    let t = at_place here (open_lines doc) place.0 place.1 in
+    let there = open_stands doc t.0 (in_got (open_lines doc) place.0 t.0 t.1) in
+    let same : t.0 ≡ s =
+    one_statement doc t.0 s there.0 stands (eqb-true t.0.index s.index t.2) in
+    (place.0, place.1, t.1 ∙ ap Some same)
+
 -- an instance of this name and class is opened before a statement
 record IsNamed (doc : Doc) (s : Statement) (n : Bytes) (c : ℕ) : Type 0 where
   number : ℕ
@@ -374,32 +388,30 @@ record IsNamed (doc : Doc) (s : Statement) (n : Bytes) (c : ℕ) : Type 0 where
   at : slice_get (open_lines doc) number ≡ Some line
   before : line.index < s.index
 
+named_line : (doc : Doc) → names_stage doc ≡ [] → (s : Statement) (n : Bytes) (c : ℕ)
+    (t : Statement) → opened_before doc s n ≡ Some t → class_opened doc t ≡ Some c
+    → IsNamed doc s n c
+unfolding instance_before
+named_line doc none s n c t is class =
+    let found = found_is (λ (t : Statement). stands_before t s && is_called instance_name n t)
+    (statements doc) t is in
+    let called = second_so (stands_before t s) (is_called instance_name n t) found.1 in
+    let k = numbered_line doc t found.0 (called_opens n t.index t.line t.block t.item called) in
+    record {
+      number = k.0;
+      is_number = ap (option_and_then (number_of_line doc)) is ∙ k.1;
+      class = class_at_line doc none k.0 c t k.2 class;
+      line = t;
+      at = k.2;
+      before = ltb-true t.index s.index
+          (first_so (stands_before t s) (is_called instance_name n t) found.1);
+    }
+
 named_is : (doc : Doc) → names_stage doc ≡ [] → (s : Statement) (n : Bytes) (c : ℕ)
     → class_of_instance doc s n ≡ Some c → IsNamed doc s n c
-unfolding instance_before
 named_is doc none s n c e =
-    let o = out_and_then (class_opened doc) (opened_before doc s n) c e in
-    let found = found_is (λ (t : Statement). stands_before t s && is_called instance_name n t)
-    (statements doc) o.0 o.1 in
-    let called = second_so (stands_before o.0 s) (is_called instance_name n o.0) found.1 in
-    let among = in_filter (λ (t : Statement). is_open_line t.item) (statements doc) o.0 found.0
-    (called_opens n o.0.index o.0.line o.0.block o.0.item called) in
-    let place = has_place (λ (t : Statement). t.index == o.0.index) (open_lines doc) o.0 among
-    (eq-eqb o.0.index o.0.index refl) in
-    let u = at_place (λ (t : Statement). t.index == o.0.index) (open_lines doc) place.0 place.1 in
-    let there = open_stands doc u.0 (in_got (open_lines doc) place.0 u.0 u.1) in
-    let same : u.0 ≡ o.0 =
-    one_statement doc u.0 o.0 there.0 found.0 (eqb-true u.0.index o.0.index u.2) in
-    let at : slice_get (open_lines doc) place.0 ≡ Some o.0 = u.1 ∙ ap Some same in
-    record {
-      number = place.0;
-      is_number = ap (option_and_then (number_of_line doc)) o.1 ∙ place.1;
-      class = class_at_line doc none place.0 c o.0 at o.2;
-      line = o.0;
-      at = at;
-      before = ltb-true o.0.index s.index
-          (first_so (stands_before o.0 s) (is_called instance_name n o.0) found.1);
-    }
+    let t = out_and_then (class_opened doc) (opened_before doc s n) c e in
+    named_line doc none s n c t.0 t.1 t.2
 
 -- ---- parents
 
@@ -525,26 +537,35 @@ links_are : (doc : Doc) (s : Statement) (n : Bytes) (c : ℕ) → instance_name 
 unfolding links_of_line
 links_are doc s n c name is = rw (name, is) refl
 
+-- the links of an instance, by the line that opens it
+links_at_line : (doc : Doc) (i : ℕ) (s : Statement) → slice_get (open_lines doc) i ≡ Some s
+    → slice_get (links_of doc) i ≡ Some (links_of_line doc s)
+unfolding links_of
+links_at_line doc i s at =
+    slice_get-map (links_of_line doc) (open_lines doc) i ∙ ap (option_map (links_of_line doc)) at
+
+link_by_line : (doc : Doc) → SessionFindsNothing doc → (i c dep d : ℕ) (s : Statement) (n : Bytes)
+    → slice_get (open_lines doc) i ≡ Some s → Contains (statements doc) s
+    → instance_name s.item ≡ Some n → class_opened doc s ≡ Some c
+    → slice_get (deps_of doc c) dep ≡ Some d → link doc i dep ≡ linked doc n d
+unfolding link
+link_by_line doc none i c dep d s n line stands name class at =
+    let each : EachGiven (linked doc n) (deps_of doc c) = λ d among.
+    linked_given doc none.names n d (all_tied doc none n s c d stands name class among) in
+    ap (option_and_then (λ (tied : List ℕ). slice_get tied dep)) (links_at_line doc i s line)
+    ∙ ap (λ (tied : List ℕ). slice_get tied dep) (links_are doc s n c name class)
+    ∙ given_at (linked doc n) (deps_of doc c) dep each
+    ∙ ap (option_and_then (linked doc n)) at
+
 -- the instance to which another one is tied for a dependency of its class is one of that class
 pub link_is : (doc : Doc) → SessionFindsNothing doc → (i c dep d : ℕ)
     → class_of_inst doc i ≡ Some c → slice_get (deps_of doc c) dep ≡ Some d
     → (j : ℕ) × (link doc i dep ≡ Some j) × (class_of_inst doc j ≡ Some d)
-unfolding link links_of
 link_is doc none i c dep d e at =
     let l = line_of doc none.names i c e in
     let n = has_name l.line.item l.opens_it.open_line in
-    let each : EachGiven (linked doc n.0) (deps_of doc c) = λ d among.
-    linked_given doc none.names n.0 d
-    (all_tied doc none n.0 l.line c d l.stands n.1 l.class among) in
-    let j = linked_is doc none.names n.0 d (all_tied doc none n.0 l.line c d l.stands n.1 l.class
-    (in_got (deps_of doc c) dep d at)) in
-    let tied = slice_get-map (links_of_line doc) (open_lines doc) i in
-    (
-      j.0,
-      ap (option_and_then (λ (tied : List ℕ). slice_get tied dep)) (tied
-          ∙ ap (option_map (links_of_line doc)) l.at)
-          ∙ ap (λ (tied : List ℕ). slice_get tied dep) (links_are doc l.line n.0 c n.1 l.class)
-          ∙ given_at (linked doc n.0) (deps_of doc c) dep each
-          ∙ ap (option_and_then (linked doc n.0)) at ∙ j.1,
-      j.2,
-    )
+    let is_link = link_by_line doc none i c dep d l.line n.0 l.at l.stands n.1 l.class at in
+    let tied = all_tied doc none n.0 l.line c d l.stands n.1 l.class
+    (in_got (deps_of doc c) dep d at) in
+    let j = linked_is doc none.names n.0 d tied in
+    (j.0, is_link ∙ j.1, j.2)

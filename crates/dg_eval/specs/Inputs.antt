@@ -8,15 +8,15 @@ use Rattle.dg_decl.specs.Diagnostics.{IsAccepted}
 use Rattle.dg_decl.specs.Graph.{Dependency, deps}
 use Rattle.dg_slots.specs.declared.plan.Input.{Input}
 use Rattle.dg_slots.specs.declared.plan.Slot.{Slot}
-use Rattle.dg_slots.specs.Plans.{inputs_of, slots_of}
+use Rattle.dg_slots.specs.Plans.{inputs_of, plan_of}
 use Rattle.dg_eval.specs.World.{class_of_inst, chain_of_inst, link}
 use Rattle.dg_eval.specs.Meaning.{node_at, Target, target_of}
 
 -- ---- where the numbers of an input lead
 
--- the slot of this number
+-- the slot of this number in the plan
 abbrev pub slot_at : Doc → ℕ → Option Slot
-slot_at doc k = slice_get (slots_of doc) k
+slot_at doc k = slice_get (plan_of doc).slots k
 
 -- the instance from which levels are counted: the one that asks, or that to which it is tied for the
 -- dependency of the input
