@@ -18,10 +18,10 @@ use Rattle.dg_decl.proofs.SizeLemmas.{depths_are_longest_walks}
 use Rattle.dg_decl.proofs.MemberLemmas.{in_front, in_flat_map, none_in}
 use Rattle.dg_eval.proofs.TargetLemmas.{Shallow}
 
-not_nil : {A : Type 0} (x : A) (xs : List A) → x ∷ xs ≡ [] → ⊥
+pub not_nil : {A : Type 0} (x : A) (xs : List A) → x ∷ xs ≡ [] → ⊥
 not_nil {A} x xs e = let P : List A → Type 0 = λ zs. Contains zs x in none_in x (subst P e (in_front x xs))
 
-first_nil : (xs : List Violation) (later : List (List Violation)) → first_found (xs ∷ later) ≡ []
+pub first_nil : (xs : List Violation) (later : List (List Violation)) → first_found (xs ∷ later) ≡ []
     → (xs ≡ []) × (first_found later ≡ [])
 first_nil [] later e = (refl, e)
 first_nil (v ∷ vs) later e = absurd (not_nil v vs e)

@@ -13,3 +13,7 @@ pub mod LawLemmas
 pub mod TypingCalls
 pub mod NumberedCalls
 pub mod CallLemmas
+pub mod InputLists
+pub mod InstanceLemmas
+pub mod AboveLemmas
+pub mod InputLemmas

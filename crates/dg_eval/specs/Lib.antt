@@ -7,3 +7,4 @@ pub mod Asks
 pub mod Report
 pub mod At
 pub mod Laws
+pub mod Inputs

@@ -1,5 +1,6 @@
 //! The laws of evaluation.
 
+ghost use Rattle.dg_eval.specs.Inputs.{InputsAreLookUps, InputsLeadToSlots, NoInputIsLeftOut};
 ghost use Rattle.dg_eval.specs.Laws.{EvaluationIsTotal, MoreDepthChangesNothing};
 
 /// More depth changes nothing, in any document: where evaluation at a depth has a result, it is the
@@ -13,4 +14,13 @@ pub fn more_depth_changes_nothing()
 /// every greater depth.
 pub fn evaluation_is_total()
     ensures exact { EvaluationIsTotal }
+{}
+
+/// No look-up is left for the run: in an accepted document each input of each slot of the plan leads
+/// by its numbers to a slot and, in each instance of the class that asks, to an instance, which are
+/// those that evaluation looks up; and each dependency of a node has its input, at the same index.
+pub fn inputs_lead_to_slots()
+    ensures exact { InputsLeadToSlots }
+    ensures look_ups { InputsAreLookUps }
+    ensures all { NoInputIsLeftOut }
 {}
