@@ -13,3 +13,9 @@ pub mod LawLemmas
 pub mod TypingCalls
 pub mod NumberedCalls
 pub mod CallLemmas
+pub mod PlaceLemmas
+pub mod StandLemmas
+pub mod EntryNodes
+pub mod PathValues
+pub mod AskLemmas
+pub mod LazyLaw

@@ -60,7 +60,7 @@ direct_edge doc n m d t c direct found =
     (record { kind = edge_kind d.mode; param = suc m; to = t }) here
     (rw direct refl))
 
-number_is : (ns : List Node) (n : Node) (k : ℕ) → number_of ns n ≡ Some k → slice_get ns k ≡ Some n
+pub number_is : (ns : List Node) (n : Node) (k : ℕ) → number_of ns n ≡ Some k → slice_get ns k ≡ Some n
 number_is ns n k e =
     let at = position-Some (same_node n) ns k n e in
     slice_get-get_or ns k n at.0 ∙ ap Some (sym ((node_decides n (get_or ns k n)).0 at.1))

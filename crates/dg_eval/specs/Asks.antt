@@ -56,16 +56,17 @@ stepped doc q path.Get v =
 stepped doc q (path.At key) v = entry_at key (out-Value v)
 stepped doc q path.Inside v = inside_reached (inside_in v)
 
+-- what goes on from a value that is there
+abbrev pub goes_on : (Value → Run Reached) → Reached → Run Reached
+goes_on next (value_there u) = next u
+goes_on next not_there = gives not_there
+
 -- the steps from a value on, of which the first has this number, of an ask at this place
 abbrev pub followed : Doc → Place → ℕ → List PathStep → Value → Run Reached
 followed doc q k [] v = gives (value_there v)
 followed doc q k (x ∷ xs) v =
     and_then (look (eval doc enough) enough v) (λ w.
     and_then (stepped doc (then_step q (step.Step k)) x w) (goes_on (followed doc q (suc k) xs)))
-  where
-    goes_on : (Value → Run Reached) → Reached → Run Reached
-    goes_on next (value_there u) = next u
-    goes_on next not_there = gives not_there
 
 -- the entry that an ask asks for, as a node
 abbrev pub entry_node : Doc → Ask → Option Node

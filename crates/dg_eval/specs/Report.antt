@@ -44,7 +44,7 @@ inside_some (Some None) = None
 inside_some (Some (Some v)) = Some (Some v)
 
 -- the value of a run that gives one
-abbrev pub value_of_run : Run Value → Option Value
+abbrev pub value_of_run : {A : Type 0} → Run A → Option A
 value_of_run (Some (Ok v, asked)) = Some v
 value_of_run other = None
 

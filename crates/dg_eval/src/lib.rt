@@ -3,4 +3,4 @@
 
 mod laws;
 
-pub use laws::{evaluation_is_total, more_depth_changes_nothing};
+pub use laws::{evaluation_is_total, lazy_places, more_depth_changes_nothing};
