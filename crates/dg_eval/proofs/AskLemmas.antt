@@ -1,7 +1,6 @@
 -- The Lazies that an ask gives and asks for stand at their places.
-use Rattle.std.proofs.Common.{◌≡◌, ◌≤◌, ◌≢◌, ℕ, zero, suc, ◌+◌, ◌-◌, Bool, true, false, cond, List, [], ◌∷◌, ◌++◌, length, map, take, slice_get, Contains, Option, Some, None, option_map, option_and_then, Ok, Err, refl, sym, ap, subst, ◌∙◌, arith}
+use Rattle.std.proofs.Common.{◌≡◌, ℕ, suc, ◌+◌, ◌-◌, Bool, true, false, cond, List, [], ◌∷◌, ◌++◌, length, map, take, Contains, Option, Some, None, option_map, option_and_then, Ok, Err, refl, sym, ap, subst, ◌∙◌, arith}
 use Rattle.std.specs.List.{enumerate_from, find}
-use Rattle.std.specs.Option.{option_map_or}
 use Rattle.std.proofs.Math.Seq.{take-append_seam}
 use Rattle.std.proofs.lemmas.Bool.{false≢true}
 use Rattle.std.proofs.lemmas.List.{append_assoc, length-append}
@@ -10,7 +9,7 @@ use Rattle.dg_types.specs.declared.key.MapKeyVal.{MapKeyVal}
 use Rattle.dg_types.specs.declared.key.Mode.TheVariants as mode
 use Rattle.dg_decl.specs.declared.document.Doc.{Doc}
 use Rattle.dg_decl.specs.declared.graph.Node.{Node}
-use Rattle.dg_decl.specs.Graph.{Dependency, deps, nodes, number_of}
+use Rattle.dg_decl.specs.Graph.{deps, nodes, number_of}
 use Rattle.dg_decl.proofs.MemberLemmas.{in_front, in_got, out_map, out_option_map}
 use Rattle.dg_decl.proofs.NodeWalks.{in_rest}
 use Rattle.dg_slots.specs.declared.session.Ask.{Ask}
@@ -29,16 +28,16 @@ use Rattle.dg_value.specs.Same.{Layer}
 use Rattle.dg_eval.specs.Runs as runs
 use Rattle.dg_eval.specs.Runs.{lazy, Run, and_then}
 use Rattle.dg_eval.specs.Operations.{field_in, entry_of, inside_in}
-use Rattle.dg_eval.specs.Meaning.{node_at, Eval, got_at, look, lazy_content, given, given_one, eval, enough}
+use Rattle.dg_eval.specs.Meaning.{got_at, look, lazy_content, given_one, eval, enough}
 use Rattle.dg_eval.specs.Asks.{Reached, value_there, not_there, present, entry_at, inside_reached, stepped, goes_on, followed, entry_node, first_run, requested, run_of_ask, reply_of, answer_to, numbered_asks}
 use Rattle.dg_eval.specs.Report.{value_of_run}
-use Rattle.dg_eval.specs.At.{Stands, reached_before, content_there, value_before, deferred_to, at_path_step, ask_numbered, at_entry, at_ask, stands_at}
+use Rattle.dg_eval.specs.At.{reached_before, content_there, value_before, deferred_to, ask_numbered, at_ask, stands_at}
 use Rattle.dg_eval.specs.Laws.{IsPlaceOf, AskStands}
 use Rattle.dg_eval.proofs.RunResults.{Allowed, Gives, Each, gives_more, then_gives, then_gives_at, asking_gives}
 use Rattle.dg_eval.proofs.ValueLemmas.{AllIn, InEntry, InLayer, layer_of, in_lazy}
 use Rattle.dg_eval.proofs.BodyResults.{each_in, field_gives, inside_good}
 use Rattle.dg_eval.proofs.AcceptedDepth.{StagesFindNothing}
-use Rattle.dg_eval.proofs.TotalLemmas.{CallsAreEdges, Within, Good, Has, HasAll, Fits, option_gives, instance_has, lazy_has, look_has, given_one_has}
+use Rattle.dg_eval.proofs.TotalLemmas.{CallsAreEdges, Within, Good, Has, Fits, option_gives, instance_has, lazy_has, look_has, given_one_has}
 use Rattle.dg_eval.proofs.PlaceLemmas.{Stood, placing, numbered_in}
 use Rattle.dg_eval.proofs.StandLemmas.{good_stands, asked_stands, all_stand}
 use Rattle.dg_eval.proofs.EntryNodes.{asked_entry, node_shallow}

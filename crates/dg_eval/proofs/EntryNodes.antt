@@ -1,21 +1,17 @@
 -- What an ask asks for is a node, from which no walk has more than 129 nodes.
-use Rattle.std.proofs.Common.{◌≡◌, ◌<◌, ℕ, zero, suc, ◌+◌, Bool, true, false, cond, not, ◌||◌, nat_lt, List, [], ◌∷◌, length, map, position, slice_get, Contains, Option, Some, None, option_map, option_and_then, refl, sym, ap, subst, ◌∙◌, arith}
+use Rattle.std.proofs.Common.{◌≡◌, ◌<◌, ℕ, zero, suc, ◌+◌, Bool, true, false, cond, not, ◌||◌, nat_lt, List, [], ◌∷◌, length, map, position, slice_get, Contains, Option, Some, refl, ap, subst, arith}
 use Rattle.std.specs.List.{list_any, position_or_len, range_with_len}
 use Rattle.std.proofs.lemmas.Bool.{false≢true, lt-ltb}
 use Rattle.std.proofs.lemmas.Option.{none-some}
-use Rattle.dg_lex.specs.Bytes.{Bytes}
-use Rattle.dg_num.specs.Walks.{Walk}
 use Rattle.dg_decl.specs.declared.document.Doc.{Doc}
-use Rattle.dg_decl.specs.declared.graph.EdgeKind.TheVariants as edge
 use Rattle.dg_decl.specs.declared.graph.Node.{Node}
 use Rattle.dg_decl.specs.declared.graph.NodeKind.TheVariants as node
 use Rattle.dg_decl.specs.declared.item.Item.{Item}
 use Rattle.dg_decl.specs.declared.item.Item.TheVariants as item
-use Rattle.dg_decl.specs.declared.item.OpenArg.{OpenArg}
 use Rattle.dg_decl.specs.Document.{Statement, statements}
 use Rattle.dg_decl.specs.Components.{class_count, class_named, entries_of}
 use Rattle.dg_decl.specs.Walks.{root}
-use Rattle.dg_decl.specs.Graph.{deps, target, same_node, node_of, nodes, number_of, needed_targets, targets, entry_nodes, EdgeTo, edges, is_direct, is_called}
+use Rattle.dg_decl.specs.Graph.{deps, target, same_node, node_of, nodes, number_of, needed_targets, targets, entry_nodes, edges, is_direct, is_called}
 use Rattle.dg_decl.specs.Sizes.{is_entry}
 use Rattle.dg_decl.proofs.ComponentLemmas.{class_below}
 use Rattle.dg_decl.proofs.GraphLemmas.{reached_nodes, target_is_node, leads_by}
@@ -55,8 +51,7 @@ numbered : (doc : Doc) (n : Node) → Contains (nodes doc) n
     → (k : ℕ) × (number_of (nodes doc) n ≡ Some k) × (node_at doc k ≡ Some n)
 numbered doc n c =
     let found = found_at (same_node n) (nodes doc)
-    (is_any same_node node_decides (nodes doc) n c) in
-    (
+    (is_any same_node node_decides (nodes doc) n c) in (
       position_or_len (same_node n) (nodes doc),
       found,
       number_is (nodes doc) n (position_or_len (same_node n) (nodes doc)) found,

@@ -20,7 +20,7 @@ use Rattle.dg_eval.proofs.GrowthLemmas.{eval_grows_to, content_grows, lazy_grows
 use Rattle.dg_eval.proofs.TargetLemmas.{ShallowSlot}
 use Rattle.dg_eval.proofs.BodyResults.{Any}
 use Rattle.dg_eval.proofs.RunResults.{gives_more}
-use Rattle.dg_eval.proofs.TotalLemmas.{Spot, Placed, Placing, CallsAreEdges, Within, Good, Has, instance_has}
+use Rattle.dg_eval.proofs.TotalLemmas.{Spot, Placed, Placing, CallsAreEdges, Within, Good, instance_has}
 use Rattle.dg_eval.proofs.NodeLemmas.{eval_has}
 use Rattle.dg_eval.proofs.AcceptedDepth.{StagesFindNothing, stages_of_accepted, accepted_shallow, target_shallow_slot}
 use Rattle.dg_eval.proofs.CallLemmas.{calls_are_edges}

@@ -1,5 +1,5 @@
 -- Each Lazy that an accepted document gives stands at its place.
-use Rattle.dg_eval.specs.Laws.{HasLazyPlaces, LazyPlaces}
+use Rattle.dg_eval.specs.Laws.{LazyPlaces}
 use Rattle.dg_eval.proofs.AcceptedDepth.{stages_of_accepted}
 use Rattle.dg_eval.proofs.CallLemmas.{calls_are_edges}
 use Rattle.dg_eval.proofs.StandLemmas.{eval_stands, give_stands, content_stands, lazy_content_stands, one_lazy}

@@ -244,9 +244,11 @@ multi_gives R doc f d h class key (core.Set b form) vs all =
     (all_added_give R form (look f d) h
     (map (gives_elements doc) (contributions doc class key)) vs all)
     (λ xs good. set_added_gives R form (look f d) h xs good)
-multi_gives R doc f d h class key (core.Map m b form) vs all =
-    (in_map R (pairs (map_keys_of doc class key) vs)
-        (pairs_good R (map_keys_of doc class key) vs all), tt)
+multi_gives R doc f d h class key (core.Map m b form) vs all = (
+  in_map R (pairs (map_keys_of doc class key) vs)
+      (pairs_good R (map_keys_of doc class key) vs all),
+  tt,
+)
 multi_gives R doc f d h class key other vs all = tt
 
 optional_gives : (R : Allowed) (vs : List Value) → Each (AllIn R) vs

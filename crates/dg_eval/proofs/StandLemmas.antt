@@ -1,5 +1,5 @@
 -- The Lazies that a run gives and asks for stand at their places.
-use Rattle.std.proofs.Common.{◌≡◌, ◌≤◌, ℕ, zero, suc, Bool, true, false, List, [], ◌∷◌, Contains, Some, None, Ok, Err, refl, sym, ap, subst, ◌∙◌, arith}
+use Rattle.std.proofs.Common.{◌≡◌, ℕ, Bool, true, false, List, Contains, Some, None, Ok, Err, sym, ap, subst, ◌∙◌, arith}
 use Rattle.std.proofs.lemmas.Bool.{false≢true}
 use Rattle.std.proofs.lemmas.Option.{none-some, same_Some}
 use Rattle.dg_types.specs.declared.key.Mode.{Mode}
@@ -10,16 +10,15 @@ use Rattle.dg_decl.specs.declared.graph.EdgeKind.TheVariants as edge
 use Rattle.dg_decl.specs.Graph.{edge_kind}
 use Rattle.dg_value.specs.declared.place.Place.{Place}
 use Rattle.dg_value.specs.declared.value.Value.{Value}
-use Rattle.dg_eval.specs.Named.{Named, made_lazy, names_in}
+use Rattle.dg_eval.specs.Named.{made_lazy, names_in}
 use Rattle.dg_eval.specs.Runs.{Asked, lazy, Run}
-use Rattle.dg_eval.specs.Meaning.{cell_place, Target, give, eval, content_of, lazy_content_of}
-use Rattle.dg_eval.specs.Report.{value_of_run}
+use Rattle.dg_eval.specs.Meaning.{cell_place, give, eval, content_of, lazy_content_of}
 use Rattle.dg_eval.specs.At.{Stands, stands_at}
 use Rattle.dg_eval.specs.Laws.{IsSlotOf, IsPlaceOf, LaziesStand, AskedStand, RunStands}
-use Rattle.dg_eval.proofs.RunResults.{Gives, Each, gives_more}
+use Rattle.dg_eval.proofs.RunResults.{Each, gives_more}
 use Rattle.dg_eval.proofs.BodyResults.{each_in}
 use Rattle.dg_eval.proofs.TargetLemmas.{ShallowSlot}
-use Rattle.dg_eval.proofs.TotalLemmas.{Placing, CallsAreEdges, NamedWithin, AskedWithin, Within, Good, Has, HasAll, FitsMode, lazy_has, give_has}
+use Rattle.dg_eval.proofs.TotalLemmas.{CallsAreEdges, NamedWithin, AskedWithin, Within, Good, Has, HasAll, FitsMode, lazy_has, give_has}
 use Rattle.dg_eval.proofs.NodeLemmas.{eval_has}
 use Rattle.dg_eval.proofs.AcceptedDepth.{StagesFindNothing}
 use Rattle.dg_eval.proofs.PlaceLemmas.{Stood, IsNoLazy, placed_at, placing}

@@ -1,6 +1,6 @@
 -- What asks come to, and which cells they use.
-use Rattle.std.specs.Prelude.{ℕ, zero, suc, ◌-◌, Bool, true, false, not, ◌&&◌, ◌==◌, if◌then◌else◌, List, [], ◌∷◌, ◌++◌, length, map, Option, Some, None, option_map, option_and_then, slice_get, Result, Ok, Err}
-use Rattle.std.specs.List.{filter, filter_map, flat_map, enumerate_from, range_with_len, list_any}
+use Rattle.std.specs.Prelude.{ℕ, zero, suc, Bool, not, ◌&&◌, ◌==◌, List, [], ◌∷◌, map, Option, Some, None, option_map, option_and_then, slice_get, Result, Ok, Err}
+use Rattle.std.specs.List.{filter, filter_map, flat_map, enumerate_from}
 use Rattle.std.specs.Option.{option_map_or}
 use Rattle.dg_decl.specs.declared.document.Doc.{Doc}
 use Rattle.dg_decl.specs.declared.graph.Node.{Node}
@@ -26,7 +26,7 @@ use Rattle.dg_eval.specs.Runs as runs
 use Rattle.dg_eval.specs.Runs.{Asked, cell, lazy, Run, gives, and_then, mistyped}
 use Rattle.dg_eval.specs.World.{class_of_inst}
 use Rattle.dg_eval.specs.Operations.{field_in, entry_of, inside_in}
-use Rattle.dg_eval.specs.Meaning.{Eval, got_at, look, given, eval, enough, content_of, lazy_content_of}
+use Rattle.dg_eval.specs.Meaning.{got_at, look, given, eval, enough, content_of, lazy_content_of}
 
 -- ---- asks
 

@@ -1,5 +1,5 @@
 -- What stands at a place. It serves the table of Lazies; what is answered doesn't speak of it.
-use Rattle.std.specs.Prelude.{ℕ, zero, suc, ◌-◌, List, [], ◌∷◌, take, Option, Some, None, option_map, option_and_then, slice_get, Result, Ok, Err}
+use Rattle.std.specs.Prelude.{ℕ, zero, suc, ◌-◌, List, [], ◌∷◌, take, Option, Some, None, option_map, option_and_then, slice_get}
 use Rattle.std.specs.Option.{option_map_or}
 use Rattle.dg_types.specs.declared.key.Mode.{Mode}
 use Rattle.dg_types.specs.declared.key.Mode.TheVariants as mode
@@ -9,7 +9,7 @@ use Rattle.dg_decl.specs.declared.graph.NodeKind.{NodeKind}
 use Rattle.dg_decl.specs.declared.graph.NodeKind.TheVariants as node
 use Rattle.dg_decl.specs.declared.binding.BindRef.TheVariants as binding
 use Rattle.dg_decl.specs.Names.{item_at}
-use Rattle.dg_decl.specs.Graph.{Dependency, deps, nodes, number_of}
+use Rattle.dg_decl.specs.Graph.{deps, nodes, number_of}
 use Rattle.dg_slots.specs.declared.session.Ask.{Ask}
 use Rattle.dg_slots.specs.Sessions.{asks_of}
 use Rattle.dg_value.specs.declared.place.Place.{Place}
@@ -22,7 +22,7 @@ use Rattle.dg_value.specs.declared.value.Value.{Value, out-Value}
 use Rattle.dg_value.specs.Places.{at_root}
 use Rattle.dg_value.specs.Same.{Layer}
 use Rattle.dg_eval.specs.Bodies.{tree_part}
-use Rattle.dg_eval.specs.Runs.{Run, gives, and_then}
+use Rattle.dg_eval.specs.Runs.{Run, and_then}
 use Rattle.dg_eval.specs.Meaning.{Target, target_of, node_at, body_of, look, eval, enough}
 use Rattle.dg_eval.specs.Asks.{Reached, value_there, not_there, requested, followed, entry_node}
 use Rattle.dg_eval.specs.Report.{value_of_run}

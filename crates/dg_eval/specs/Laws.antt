@@ -1,5 +1,5 @@
 -- The laws of evaluation, in accepted documents.
-use Rattle.std.specs.Prelude.{◌≡◌, ◌≢◌, ◌≤◌, ℕ, Bool, false, Option, Some, None, IsSome, Contains, List}
+use Rattle.std.specs.Prelude.{◌≡◌, ◌≢◌, ◌≤◌, ℕ, false, Some, None, IsSome, Contains, List}
 use Rattle.dg_types.specs.declared.key.Mode.{Mode}
 use Rattle.dg_types.specs.declared.key.Mode.TheVariants as mode
 use Rattle.dg_decl.specs.declared.document.Doc.{Doc}
@@ -18,7 +18,7 @@ use Rattle.dg_eval.specs.Named.{made_lazy, names_in}
 use Rattle.dg_eval.specs.Meaning.{node_at, content, lazy_content, give, eval, enough, content_of, lazy_content_of}
 use Rattle.dg_eval.specs.Asks.{run_of_ask, answer_to, numbered_asks}
 use Rattle.dg_eval.specs.Report.{value_of_run}
-use Rattle.dg_eval.specs.At.{Stands, stands_at}
+use Rattle.dg_eval.specs.At.{stands_at}
 
 -- there is a result at a depth of 128, and more depth changes nothing
 pub record IsSettled {A : Type 0} (at : ℕ → Run A) : Type 0 where
