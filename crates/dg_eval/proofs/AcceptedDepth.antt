@@ -1,11 +1,16 @@
 -- In an accepted document no walk from a node that is no entry has more than 128 nodes.
-use Rattle.std.proofs.Common.{◌≡◌, ◌≤◌, ℕ, ◌+◌, Bool, true, false, not, ◌&&◌, nat_lt, List, [], ◌∷◌, ◌++◌, flat_map, Contains, refl, sym, subst, ◌∙◌, arith, inl, inr}
+use Rattle.std.proofs.Common.{◌≡◌, ◌≤◌, ℕ, ◌+◌, Bool, true, false, not, ◌&&◌, nat_lt, List, [], ◌∷◌, ◌++◌, flat_map, Contains, Some, refl, sym, subst, ◌∙◌, arith, inl, inr}
 use Rattle.std.proofs.lemmas.Bool.{false≢true, lt-ltb, cases_lt}
+use Rattle.std.proofs.lemmas.Option.{none-some, same_Some}
 use Rattle.dg_decl.specs.declared.document.Doc.{Doc}
 use Rattle.dg_decl.specs.declared.graph.Node.{Node}
 use Rattle.dg_decl.specs.declared.violation.Violation.{Violation}
 use Rattle.dg_decl.specs.Diagnostics.{first_found, diagnostics, IsAccepted}
-use Rattle.dg_decl.specs.Graph.{nodes}
+use Rattle.dg_types.specs.declared.key.Key.{Key}
+use Rattle.dg_decl.specs.declared.binding.Found.{Found}
+use Rattle.dg_decl.specs.declared.binding.Found.TheVariants as found
+use Rattle.dg_decl.specs.declared.graph.NodeKind.TheVariants as node
+use Rattle.dg_decl.specs.Graph.{Dependency, node_found, node_of, nodes}
 use Rattle.dg_decl.specs.Sizes.{is_entry, depth, IsDepth}
 use Rattle.dg_decl.specs.Stages.Names.{names_stage}
 use Rattle.dg_decl.specs.Stages.Types.{types_stage}
@@ -15,8 +20,9 @@ use Rattle.dg_decl.specs.Stages.Bindings.{bindings_stage, where_true}
 use Rattle.dg_decl.specs.Stages.Sizes.{sizes_stage, too_deep, too_heavy, depth_limit}
 use Rattle.dg_decl.proofs.AcceptedGraph.{stages_leave_no_cycle}
 use Rattle.dg_decl.proofs.SizeLemmas.{depths_are_longest_walks}
-use Rattle.dg_decl.proofs.MemberLemmas.{in_front, in_flat_map, none_in}
-use Rattle.dg_eval.proofs.TargetLemmas.{Shallow}
+use Rattle.dg_decl.proofs.MemberLemmas.{in_front, in_flat_map, none_in, in_got}
+use Rattle.dg_eval.specs.Meaning.{Target, target_of}
+use Rattle.dg_eval.proofs.TargetLemmas.{Shallow, ShallowSlot, target_is}
 
 pub not_nil : {A : Type 0} (x : A) (xs : List A) → x ∷ xs ≡ [] → ⊥
 not_nil {A} x xs e = let P : List A → Type 0 = λ zs. Contains zs x in none_in x (subst P e (in_front x xs))
@@ -94,3 +100,30 @@ accepted_shallow doc none n among entry edges last w =
     depths_are_longest_walks doc (stages_leave_no_cycle doc none.bindings) n among in
     let long : edges + 1 ≤ depth doc n = rank.longest edges last w in
     omega arith
+
+pub found_no_entry : (class : ℕ) (key : Key) (f : Found) (x : Node)
+    → node_found class key f ≡ Some x → is_entry x ≡ false
+found_no_entry class key (found.One owner b) x e =
+    let P : Node → Type 0 = λ y. is_entry y ≡ false in
+    subst P (same_Some (node_of owner (node.Bound b)) x e) refl
+found_no_entry class key (found.SetOf os) x e =
+    let P : Node → Type 0 = λ y. is_entry y ≡ false in
+    subst P (same_Some (node_of class (node.Multi key)) x e) refl
+found_no_entry class key (found.MapOf os) x e =
+    let P : Node → Type 0 = λ y. is_entry y ≡ false in
+    subst P (same_Some (node_of class (node.Multi key)) x e) refl
+found_no_entry class key found.OptionalOf x e =
+    let P : Node → Type 0 = λ y. is_entry y ≡ false in
+    subst P (same_Some (node_of class (node.Opt key)) x e) refl
+found_no_entry class key other x e = absurd (none-some x e)
+
+-- where a dependency leads no walk has more than 128 nodes
+pub target_shallow_slot : (doc : Doc) → StagesFindNothing doc → (i : ℕ) (n : Node) (d : Dependency)
+    → (t : Target) → target_of doc i n d ≡ Some t → ShallowSlot doc 128 t.slot
+target_shallow_slot doc none i n d t e =
+    let x = target_is doc i n d t e in (
+      x.0,
+      x.2,
+      accepted_shallow doc none x.0 (in_got (nodes doc) t.slot x.0 x.2)
+          (found_no_entry d.class d.key d.found x.0 x.1),
+    )

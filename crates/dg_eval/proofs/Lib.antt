@@ -17,3 +17,9 @@ pub mod InputLists
 pub mod InstanceLemmas
 pub mod AboveLemmas
 pub mod InputLemmas
+pub mod PlaceLemmas
+pub mod StandLemmas
+pub mod EntryNodes
+pub mod PathValues
+pub mod AskLemmas
+pub mod LazyLaw

@@ -1,6 +1,6 @@
 -- What asks come to, and which cells they use.
-use Rattle.std.specs.Prelude.{ℕ, zero, suc, ◌-◌, Bool, true, false, not, ◌&&◌, ◌==◌, if◌then◌else◌, List, [], ◌∷◌, ◌++◌, length, map, Option, Some, None, option_map, option_and_then, slice_get, Result, Ok, Err}
-use Rattle.std.specs.List.{filter, filter_map, flat_map, enumerate_from, range_with_len, list_any}
+use Rattle.std.specs.Prelude.{ℕ, zero, suc, Bool, not, ◌&&◌, ◌==◌, List, [], ◌∷◌, map, Option, Some, None, option_map, option_and_then, slice_get, Result, Ok, Err}
+use Rattle.std.specs.List.{filter, filter_map, flat_map, enumerate_from}
 use Rattle.std.specs.Option.{option_map_or}
 use Rattle.dg_decl.specs.declared.document.Doc.{Doc}
 use Rattle.dg_decl.specs.declared.graph.Node.{Node}
@@ -26,7 +26,7 @@ use Rattle.dg_eval.specs.Runs as runs
 use Rattle.dg_eval.specs.Runs.{Asked, cell, lazy, Run, gives, and_then, mistyped}
 use Rattle.dg_eval.specs.World.{class_of_inst}
 use Rattle.dg_eval.specs.Operations.{field_in, entry_of, inside_in}
-use Rattle.dg_eval.specs.Meaning.{Eval, got_at, look, given, eval, enough, content_of, lazy_content_of}
+use Rattle.dg_eval.specs.Meaning.{got_at, look, given, eval, enough, content_of, lazy_content_of}
 
 -- ---- asks
 
@@ -56,16 +56,17 @@ stepped doc q path.Get v =
 stepped doc q (path.At key) v = entry_at key (out-Value v)
 stepped doc q path.Inside v = inside_reached (inside_in v)
 
+-- what goes on from a value that is there
+abbrev pub goes_on : (Value → Run Reached) → Reached → Run Reached
+goes_on next (value_there u) = next u
+goes_on next not_there = gives not_there
+
 -- the steps from a value on, of which the first has this number, of an ask at this place
 abbrev pub followed : Doc → Place → ℕ → List PathStep → Value → Run Reached
 followed doc q k [] v = gives (value_there v)
 followed doc q k (x ∷ xs) v =
     and_then (look (eval doc enough) enough v) (λ w.
     and_then (stepped doc (then_step q (step.Step k)) x w) (goes_on (followed doc q (suc k) xs)))
-  where
-    goes_on : (Value → Run Reached) → Reached → Run Reached
-    goes_on next (value_there u) = next u
-    goes_on next not_there = gives not_there
 
 -- the entry that an ask asks for, as a node
 abbrev pub entry_node : Doc → Ask → Option Node

@@ -1,5 +1,5 @@
 -- What stands at a place. It serves the table of Lazies; what is answered doesn't speak of it.
-use Rattle.std.specs.Prelude.{ℕ, zero, suc, ◌-◌, List, [], ◌∷◌, take, Option, Some, None, option_map, option_and_then, slice_get, Result, Ok, Err}
+use Rattle.std.specs.Prelude.{ℕ, zero, suc, ◌-◌, List, [], ◌∷◌, take, Option, Some, None, option_map, option_and_then, slice_get}
 use Rattle.std.specs.Option.{option_map_or}
 use Rattle.dg_types.specs.declared.key.Mode.{Mode}
 use Rattle.dg_types.specs.declared.key.Mode.TheVariants as mode
@@ -9,7 +9,7 @@ use Rattle.dg_decl.specs.declared.graph.NodeKind.{NodeKind}
 use Rattle.dg_decl.specs.declared.graph.NodeKind.TheVariants as node
 use Rattle.dg_decl.specs.declared.binding.BindRef.TheVariants as binding
 use Rattle.dg_decl.specs.Names.{item_at}
-use Rattle.dg_decl.specs.Graph.{Dependency, deps, nodes, number_of}
+use Rattle.dg_decl.specs.Graph.{deps, nodes, number_of}
 use Rattle.dg_slots.specs.declared.session.Ask.{Ask}
 use Rattle.dg_slots.specs.Sessions.{asks_of}
 use Rattle.dg_value.specs.declared.place.Place.{Place}
@@ -22,9 +22,10 @@ use Rattle.dg_value.specs.declared.value.Value.{Value, out-Value}
 use Rattle.dg_value.specs.Places.{at_root}
 use Rattle.dg_value.specs.Same.{Layer}
 use Rattle.dg_eval.specs.Bodies.{tree_part}
-use Rattle.dg_eval.specs.Runs.{Run, gives, and_then}
+use Rattle.dg_eval.specs.Runs.{Run, and_then}
 use Rattle.dg_eval.specs.Meaning.{Target, target_of, node_at, body_of, look, eval, enough}
 use Rattle.dg_eval.specs.Asks.{Reached, value_there, not_there, requested, followed, entry_node}
+use Rattle.dg_eval.specs.Report.{value_of_run}
 
 -- a slot in an instance, in a mode
 pub record Stands : Type 0 where
@@ -95,22 +96,21 @@ steps_behind doc s (x ∷ xs) = steps_behind doc (option_and_then (λ t. step_be
 
 -- ---- the paths of asks
 
+-- what the steps of an ask before this one come to
+abbrev pub reached_before : Doc → ℕ → Ask → ℕ → Run Reached
+reached_before doc number a k =
+    and_then (requested doc a (at_root (root.Ask number)))
+    (followed doc (at_root (root.Ask number)) 1 (take (k - 1) a.steps))
+
+-- the content behind a value that is there
+abbrev pub content_there : Doc → Reached → Run Value
+content_there doc (value_there v) = look (eval doc enough) enough v
+content_there doc not_there = None
+
 -- the content behind the value to which the steps of an ask before this one come
 abbrev pub value_before : Doc → ℕ → Ask → ℕ → Option Value
-value_before doc number a k = of_run (and_then reached behind)
-  where
-    reached : Run Reached
-    reached =
-        and_then (requested doc a (at_root (root.Ask number)))
-        (followed doc (at_root (root.Ask number)) 1 (take (k - 1) a.steps))
-
-    behind : Reached → Run Value
-    behind (value_there v) = look (eval doc enough) enough v
-    behind not_there = None
-
-    of_run : Run Value → Option Value
-    of_run (Some (Ok v, asked)) = Some v
-    of_run other = None
+value_before doc number a k =
+    value_of_run (and_then (reached_before doc number a k) (content_there doc))
 
 -- what a deferred value leads to
 abbrev pub deferred_to : Layer → Option Stands

@@ -2,7 +2,6 @@
 -- right, and the first failure is that of the whole.
 use Rattle.std.specs.Prelude.{ℕ, suc, ◌+◌, Bool, true, false, if◌then◌else◌, List, [], ◌∷◌, ◌++◌, length, map, Option, Some, None}
 use Rattle.std.specs.List.{filter_map}
-use Rattle.std.specs.Option.{option_map_or}
 use Rattle.dg_decl.specs.declared.expression.CallName.{CallName}
 use Rattle.dg_decl.specs.declared.expression.CallName.TheVariants as call
 use Rattle.dg_decl.specs.declared.expression.ParamCall.{ParamCall}

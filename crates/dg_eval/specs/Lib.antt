@@ -2,6 +2,7 @@ pub mod Runs
 pub mod World
 pub mod Operations
 pub mod Bodies
+pub mod Named
 pub mod Meaning
 pub mod Asks
 pub mod Report

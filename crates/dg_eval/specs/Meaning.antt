@@ -1,7 +1,7 @@
 -- What evaluation gives: by one thread, by recursion over the declarations. It is said at a depth; a
 -- law says that in an accepted document a depth of 128 is enough everywhere.
-use Rattle.std.specs.Prelude.{◌≡◌, ℕ, zero, suc, ◌-◌, Bool, true, false, not, ◌&&◌, ◌||◌, if◌then◌else◌, List, [], ◌∷◌, ◌++◌, length, map, Option, Some, None, is_some, option_map, option_and_then, slice_get, slice_index_or}
-use Rattle.std.specs.List.{filter_map, flat_map, enumerate_from, list_any}
+use Rattle.std.specs.Prelude.{ℕ, zero, suc, Bool, true, false, ◌||◌, if◌then◌else◌, List, [], ◌∷◌, ◌++◌, map, Option, Some, None, is_some, option_map, option_and_then, slice_get}
+use Rattle.std.specs.List.{enumerate_from}
 use Rattle.std.specs.Option.{option_map_or}
 use Rattle.dg_types.specs.declared.key.Key.{Key}
 use Rattle.dg_types.specs.declared.key.Core.{Core}
@@ -14,17 +14,14 @@ use Rattle.dg_types.specs.declared.key.Mode.TheVariants as mode
 use Rattle.dg_decl.specs.declared.document.Doc.{Doc}
 use Rattle.dg_decl.specs.declared.binding.BindRef.{BindRef}
 use Rattle.dg_decl.specs.declared.binding.BindRef.TheVariants as binding
-use Rattle.dg_decl.specs.declared.binding.Owned.{Owned}
 use Rattle.dg_decl.specs.declared.graph.Node.{Node}
 use Rattle.dg_decl.specs.declared.graph.NodeKind.{NodeKind}
 use Rattle.dg_decl.specs.declared.graph.NodeKind.TheVariants as node
 use Rattle.dg_decl.specs.declared.item.Item.{Item}
 use Rattle.dg_decl.specs.declared.item.Item.TheVariants as item
-use Rattle.dg_decl.specs.declared.item.Mark.{Mark}
-use Rattle.dg_decl.specs.declared.item.Mark.TheVariants as mark
-use Rattle.dg_decl.specs.Names.{item_at, params_of}
+use Rattle.dg_decl.specs.Names.{item_at}
 use Rattle.dg_decl.specs.Lookup.{contributions}
-use Rattle.dg_decl.specs.Graph.{Dependency, deps, target, nodes, number_of, inner_of}
+use Rattle.dg_decl.specs.Graph.{Dependency, deps, target, nodes, number_of}
 use Rattle.dg_decl.specs.Sizes.{scope_of, is_producer, is_production}
 use Rattle.dg_decl.specs.Stages.Bindings.{map_keys_of}
 use Rattle.dg_slots.specs.declared.body.NTree.{NTree}
@@ -41,7 +38,7 @@ use Rattle.dg_value.specs.declared.value.Kept.TheOpen.{Value-F}
 use Rattle.dg_value.specs.declared.value.Value.TheVariants as value
 use Rattle.dg_value.specs.Places.{at_root, then_step}
 use Rattle.dg_value.specs.Same.{Layer}
-use Rattle.dg_eval.specs.Runs.{Asked, cell, lazy, Run, gives, and_then, asking, all, outcome_of, mistyped}
+use Rattle.dg_eval.specs.Runs.{cell, lazy, Run, gives, and_then, asking, all, outcome_of, mistyped}
 use Rattle.dg_eval.specs.World.{up, link, bound_value}
 use Rattle.dg_eval.specs.Operations.{or_mistyped, only_of, elements_in, kept_in, value_if}
 use Rattle.dg_eval.specs.Bodies.{End, value_end, producer_end, Around, set_of, tree_part}

@@ -1,16 +1,14 @@
 -- What bodies do with values that aren't held.
-use Rattle.std.specs.Prelude.{ℕ, ◌+◌, ◌<◌, nat_lt, Bool, true, false, not, ◌&&◌, ◌||◌, if◌then◌else◌, List, [], ◌∷◌, ◌++◌, length, map, Option, Some, None, option_map, slice_get, codes, ℤ, pos, negsuc, ◌+ℤ◌, int_lt}
+use Rattle.std.specs.Prelude.{ℕ, nat_lt, Bool, true, false, not, ◌&&◌, if◌then◌else◌, List, [], ◌∷◌, ◌++◌, length, Option, Some, None, option_map, slice_get, codes, ℤ, pos, negsuc, ◌+ℤ◌, int_lt}
 use Rattle.std.specs.Fmt.{signed_decimal}
-use Rattle.std.specs.List.{filter_map, find}
+use Rattle.std.specs.List.{find}
 use Rattle.std.specs.Ordering.{int_eq}
 use Rattle.std.specs.Option.{option_map_or}
 use Rattle.std.specs.Str.{bytes_eq}
 use Rattle.dg_lex.specs.Bytes.{Bytes}
 use Rattle.dg_types.specs.declared.key.MapKeyVal.{MapKeyVal}
 use Rattle.dg_types.specs.Equality.{same_map_key}
-use Rattle.dg_value.specs.declared.value.Failure.{Failure}
 use Rattle.dg_value.specs.declared.value.Kept.{Kept, out-Kept}
-use Rattle.dg_value.specs.declared.value.Kept.TheVariants as kept
 use Rattle.dg_value.specs.declared.value.Value.{Value, out-Value}
 use Rattle.dg_value.specs.declared.value.Kept.TheOpen.{Kept-F, Value-F}
 use Rattle.dg_value.specs.declared.value.Value.TheVariants as value

@@ -1,7 +1,7 @@
 -- The report of a document: a line for each reply, and the number of cells that are used.
-use Rattle.std.specs.Prelude.{ℕ, zero, suc, ◌+◌, ◌-◌, nat_lt, Bool, true, false, if◌then◌else◌, List, [], ◌∷◌, ◌++◌, length, map, take, Option, Some, None, option_map, option_and_then, unwrap_or, slice_get, codes, decimal, Result, Ok, Err}
+use Rattle.std.specs.Prelude.{ℕ, zero, suc, ◌-◌, nat_lt, Bool, true, false, if◌then◌else◌, List, [], ◌∷◌, ◌++◌, length, map, take, Option, Some, None, option_map, option_and_then, unwrap_or, slice_get, codes, decimal, Ok}
 use Rattle.std.specs.Fmt.{signed_decimal}
-use Rattle.std.specs.List.{filter, position, flat_map}
+use Rattle.std.specs.List.{filter, position}
 use Rattle.std.specs.Option.{option_map_or}
 use Rattle.dg_lex.specs.Bytes.{Bytes, line_end}
 use Rattle.dg_lex.specs.Lexemes.{quoted}
@@ -44,7 +44,7 @@ inside_some (Some None) = None
 inside_some (Some (Some v)) = Some (Some v)
 
 -- the value of a run that gives one
-abbrev pub value_of_run : Run Value → Option Value
+abbrev pub value_of_run : {A : Type 0} → Run A → Option A
 value_of_run (Some (Ok v, asked)) = Some v
 value_of_run other = None
 

@@ -1,7 +1,6 @@
 -- The world of a document: its instances, how they stand to one another, and their arguments.
-use Rattle.std.specs.Prelude.{ℕ, zero, suc, ◌+◌, Bool, false, List, [], ◌∷◌, length, Option, Some, None, option_and_then, option_map, unwrap_or, slice_get, pos}
+use Rattle.std.specs.Prelude.{ℕ, suc, ◌+◌, List, [], ◌∷◌, length, Option, Some, option_and_then, option_map, slice_get, pos}
 use Rattle.std.specs.List.{find}
-use Rattle.std.specs.Option.{option_map_or}
 use Rattle.dg_decl.specs.declared.document.Doc.{Doc}
 use Rattle.dg_decl.specs.Components.{is_number, walk}
 use Rattle.dg_slots.specs.declared.body.NExpr.{NExpr, fold-NExpr}

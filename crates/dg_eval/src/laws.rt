@@ -1,7 +1,7 @@
 //! The laws of evaluation.
 
 ghost use Rattle.dg_eval.specs.Inputs.{InputsAreLookUps, InputsLeadToSlots, NoInputIsLeftOut};
-ghost use Rattle.dg_eval.specs.Laws.{EvaluationIsTotal, MoreDepthChangesNothing};
+ghost use Rattle.dg_eval.specs.Laws.{EvaluationIsTotal, LazyPlaces, MoreDepthChangesNothing};
 
 /// More depth changes nothing, in any document: where evaluation at a depth has a result, it is the
 /// same at every greater depth.
@@ -23,4 +23,12 @@ pub fn inputs_lead_to_slots()
     ensures exact { InputsLeadToSlots }
     ensures look_ups { InputsAreLookUps }
     ensures all { NoInputIsLeftOut }
+{}
+
+/// Each Lazy stands at its place: in an accepted document, for every Lazy of a slot and an instance
+/// in a value that evaluation gives, in a content or in a reply, what stands at its place is that
+/// slot in that instance, as a Lazy. The same holds for each Lazy that is asked for. So a place has
+/// at most one Lazy, and a table of Lazies by place loses none.
+pub fn lazy_places()
+    ensures exact { LazyPlaces }
 {}

@@ -3,4 +3,6 @@
 
 mod laws;
 
-pub use laws::{evaluation_is_total, inputs_lead_to_slots, more_depth_changes_nothing};
+pub use laws::{
+    evaluation_is_total, inputs_lead_to_slots, lazy_places, more_depth_changes_nothing,
+};
