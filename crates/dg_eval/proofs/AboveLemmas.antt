@@ -1,6 +1,5 @@
 -- What a class finds stands on its chain, and where the dependencies of a node are looked up.
-use Rattle.std.proofs.Common.{◌≡◌, inl, inr, ℕ, Bool, true, false, cond, not, ◌||◌, List, [], ◌∷◌, ◌++◌, map, filter, filter_map, flat_map, find, slice_get, Contains, Option, Some, None, option_map, option_and_then, option_to_list, refl, sym, ap, subst, ◌∙◌}
-use Rattle.std.specs.Option.{option_map_or}
+use Rattle.std.proofs.Common.{◌≡◌, inl, inr, ℕ, Bool, true, false, cond, not, List, [], ◌∷◌, ◌++◌, map, filter_map, flat_map, find, slice_get, Contains, Option, Some, None, option_and_then, refl, sym, ap, subst, ◌∙◌}
 use Rattle.std.proofs.lemmas.Option.{none-some, same_Some}
 use Rattle.std.proofs.lemmas.List.Elements.{Contains-append_cases}
 use Rattle.dg_lex.specs.Bytes.{Bytes}
@@ -24,11 +23,11 @@ use Rattle.dg_decl.specs.declared.graph.Node.{Node}
 use Rattle.dg_decl.specs.declared.graph.NodeKind.{NodeKind}
 use Rattle.dg_decl.specs.declared.graph.NodeKind.TheVariants as node
 use Rattle.dg_decl.specs.Document.{Statement, statements}
-use Rattle.dg_decl.specs.Names.{item_at, class_item_named, params_of, result_of}
+use Rattle.dg_decl.specs.Names.{item_at, class_item_named, params_of}
 use Rattle.dg_decl.specs.Components.{chain, root_first, carries, deps_of}
-use Rattle.dg_decl.specs.Lookup.{owned, is_header_of, explicit_default, explicit_exposed, explicit_argument, explicit_member, explicit_at, explicit, explicit_in_chain, inside_key, contributions_in, contributions, is_declared, is_optional_declared, injected_scope, injected_with, injected_item, injected_base, injected, found_of_core, find_without_explicit, found_among, find as find_key}
+use Rattle.dg_decl.specs.Lookup.{owned, is_header_of, explicit_default, explicit_exposed, explicit_argument, explicit_member, explicit_at, explicit, explicit_in_chain, inside_key, contributions_in, contributions, is_optional_declared, injected_scope, injected_with, injected_item, injected_base, injected, found_of_core, find_without_explicit, found_among, find as find_key}
 use Rattle.dg_decl.specs.Graph.{node_of, mode_of_inner, inner_of, Dependency, asked, of_param, of_params, of_entry, of_binding, contribution_of, of_contributions, of_inside, is_nothing, deps, node_found, target}
-use Rattle.dg_decl.proofs.MemberLemmas.{none_in, in_front, the_one, out_map, out_filter, out_flat_map, out_option, out_option_map, out_and_then, out_filter_map, out_list_of, out_if, out_reverse}
+use Rattle.dg_decl.proofs.MemberLemmas.{none_in, in_front, the_one, out_map, out_filter, out_flat_map, out_option, out_option_map, out_filter_map, out_list_of, out_reverse}
 use Rattle.dg_slots.specs.Plans.{through}
 use Rattle.dg_eval.proofs.InputLists.{found_is}
 
@@ -132,7 +131,8 @@ nothing_up : (doc : Doc) (c : ℕ) (k : Key) → LeadsUp doc c k found.Nothing
 nothing_up doc c k n e = absurd (none-some n e)
 
 node_up : (doc : Doc) (c : ℕ) (m n : Node) → On doc c m.class → Some m ≡ Some n → On doc c n.class
-node_up doc c m n on e = let P : Node → Type 0 = λ n. On doc c n.class in subst P (same_Some m n e) on
+node_up doc c m n on e =
+    let P : Node → Type 0 = λ n. On doc c n.class in subst P (same_Some m n e) on
 
 one_up : (doc : Doc) (c : ℕ) (k : Key) (o : ℕ) (b : BindRef) → On doc c o
     → LeadsUp doc c k (found.One o b)

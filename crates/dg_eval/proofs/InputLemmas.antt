@@ -1,5 +1,5 @@
 -- In an accepted document each input leads where its dependency is looked up.
-use Rattle.std.proofs.Common.{◌≡◌, ℕ, zero, suc, ◌<◌, ◌==◌, Bool, true, false, cond, List, [], ◌∷◌, ◌++◌, length, map, find, position, slice_get, Contains, Option, Some, None, option_map, option_and_then, unwrap_or, refl, sym, ap, subst, ◌∙◌, arith}
+use Rattle.std.proofs.Common.{◌≡◌, ℕ, zero, suc, ◌<◌, ◌==◌, Bool, true, false, cond, List, [], ◌∷◌, length, find, position, slice_get, Contains, Option, Some, None, option_map, option_and_then, unwrap_or, refl, sym, ap, subst, ◌∙◌, arith}
 use Rattle.std.specs.Option.{option_map_or}
 use Rattle.std.proofs.lemmas.Bool.{eq-eqb, eqb-true}
 use Rattle.std.proofs.lemmas.Option.{none-some, same_Some, slice_get-get_or, slice_get-map, slice_get_within}
@@ -25,11 +25,11 @@ use Rattle.dg_slots.specs.declared.session.Inst.{Inst}
 use Rattle.dg_slots.specs.Plans.{level_of, through, input_of, inputs_of, slot_of, slots_of, plan_of}
 use Rattle.dg_slots.specs.Sessions.{insts_of}
 use Rattle.dg_eval.specs.World.{inst_at, class_of_inst, parent_of_inst, chain_of_inst, up, link}
-use Rattle.dg_eval.specs.Meaning.{node_at, Target, target_of, asking_inst}
-use Rattle.dg_eval.specs.Inputs.{slot_at, counted_from, inst_led, LeadsToSlot, InputsLeadToSlots, IsAsked, InputLeads, InputsAreLookUps, NoInputIsLeftOut}
-use Rattle.dg_eval.proofs.AcceptedDepth.{StagesFindNothing, stages_of_accepted, nil_left, nil_right, flat_nil}
+use Rattle.dg_eval.specs.Meaning.{node_at, target_of, asking_inst}
+use Rattle.dg_eval.specs.Inputs.{slot_at, LeadsToSlot, InputsLeadToSlots, InputLeads, InputsAreLookUps, NoInputIsLeftOut}
+use Rattle.dg_eval.proofs.AcceptedDepth.{stages_of_accepted, nil_left, nil_right, flat_nil}
 use Rattle.dg_eval.proofs.TargetLemmas.{number_is}
-use Rattle.dg_eval.proofs.InputLists.{first_place, position_is, has_place, at_place, EachGiven, given_at, given_length}
+use Rattle.dg_eval.proofs.InputLists.{first_place, position_is, has_place, EachGiven, given_at, given_length}
 use Rattle.dg_eval.proofs.InstanceLemmas.{SessionFindsNothing, session_of_accepted, none_there, parent_is, link_is}
 use Rattle.dg_eval.proofs.AboveLemmas.{AskedIn, needs_up}
 
@@ -280,6 +280,7 @@ inputs_are_look_ups doc accepted i k m n d asked =
       input = input_to doc n d f.found f.slot;
       is_input = input_at doc none n m d (input_to doc n d f.found f.slot) among
           asked.is_dependency (input_is doc n d f.found f.slot f.is_target f.is_slot);
+      mode = refl;
       found = f.found;
       is_slot = number_is (nodes doc) f.found f.slot f.is_slot;
       inst = stands.inst;

@@ -1,5 +1,5 @@
 -- Where the first that passes stands in a list, and lists from which none is left out.
-use Rattle.std.proofs.Common.{◌≡◌, inl, inr, ℕ, zero, suc, ◌+◌, ◌<◌, ◌≤◌, ltb, Bool, true, false, cond, not, ◌||◌, List, [], ◌∷◌, length, get_or, map, filter, filter_map, position, find, slice_get, Contains, Option, Some, None, option_map, option_and_then, refl, sym, ap, ◌∙◌, arith}
+use Rattle.std.proofs.Common.{◌≡◌, inl, inr, ℕ, zero, suc, ◌+◌, ltb, Bool, true, false, cond, not, ◌||◌, List, [], ◌∷◌, length, filter, filter_map, position, find, slice_get, Contains, Option, Some, None, option_map, option_and_then, refl, sym, ap, ◌∙◌, arith}
 use Rattle.std.specs.List.{cons_option, list_any, position_or_len}
 use Rattle.std.proofs.lemmas.Bool.{false≢true, lt-ltb, le-ltb, cases_lt}
 use Rattle.std.proofs.lemmas.Option.{none-some, same_Some, slice_get-get_or}
@@ -62,7 +62,8 @@ one_at : {A : Type 0} (p : A → Bool) (y : A) (ys : List A) (b : Bool) (k : ℕ
     → cond b (Some 0) (option_map (λ k. suc k) (first_place p ys)) ≡ Some k
     → (x : A) × (slice_get (y ∷ ys) k ≡ Some x) × (p x ≡ true)
 one_at p y ys true zero h later e = (y, refl, h)
-one_at p y ys true (suc k) h later e = absurd (let same : 0 ≡ suc k = same_Some 0 (suc k) e in omega arith)
+one_at p y ys true (suc k) h later e =
+    absurd (let same : 0 ≡ suc k = same_Some 0 (suc k) e in omega arith)
 one_at p y ys false k h later e = from (first_place p ys) refl e
   where
     from : (o : Option ℕ) → first_place p ys ≡ o → option_map (λ k. suc k) o ≡ Some k

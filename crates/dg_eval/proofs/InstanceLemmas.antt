@@ -1,11 +1,10 @@
 -- Instances by the lines that open them: in an accepted document each has the parent and the links
 -- that its class wants.
-use Rattle.std.proofs.Common.{◌≡◌, inl, inr, ℕ, zero, suc, ◌+◌, ◌<◌, ◌≤◌, ◌==◌, nat_lt, Bool, true, false, cond, not, ◌&&◌, ◌||◌, List, [], ◌∷◌, ◌++◌, length, map, filter, filter_map, flat_map, find, position, slice_get, Contains, Option, Some, None, option_map, option_and_then, option_to_list, bytes_eq, refl, sym, ap, ◌∙◌, subst, arith}
-use Rattle.std.specs.List.{list_any}
+use Rattle.std.proofs.Common.{◌≡◌, inl, inr, ℕ, zero, suc, ◌+◌, ◌<◌, ◌≤◌, ◌==◌, Bool, true, false, cond, not, ◌&&◌, ◌||◌, List, [], ◌∷◌, ◌++◌, map, filter, filter_map, flat_map, find, position, slice_get, Contains, Option, Some, None, option_map, option_and_then, option_to_list, bytes_eq, refl, sym, ap, ◌∙◌, subst, arith}
 use Rattle.std.specs.Option.{option_map_or, option_or}
 use Rattle.std.specs.Cmp.Lexicographic.{bytes_decides}
 use Rattle.std.proofs.lemmas.Bool.{false≢true, true≢false, ltb-true, eq-eqb, eqb-true, cases_lt, or_cases, true_from_ne_false}
-use Rattle.std.proofs.lemmas.Option.{none-some, same_Some, slice_get-get_or, slice_get-map, slice_get_within}
+use Rattle.std.proofs.lemmas.Option.{none-some, same_Some, slice_get-get_or, slice_get-map}
 use Rattle.dg_lex.specs.Bytes.{Bytes, is_among}
 use Rattle.dg_hilt.specs.Table.{HiltRow, hilt_classes, hilt_names}
 use Rattle.dg_hilt.specs.Names.{predefined_names}
@@ -17,8 +16,8 @@ use Rattle.dg_decl.specs.declared.violation.Rule.TheVariants as rule
 use Rattle.dg_decl.specs.declared.violation.Violation.{Violation}
 use Rattle.dg_decl.specs.Document.{Statement, statements, statements_from, open_behind}
 use Rattle.dg_decl.specs.Limits.{is_open_line}
-use Rattle.dg_decl.specs.Names.{outer_name, is_called, declared, params_of}
-use Rattle.dg_decl.specs.Components.{hilt_count, is_component, component_headers, number_of_header, class_named, class_name, parent_of, deps_of, walk, is_number}
+use Rattle.dg_decl.specs.Names.{outer_name, is_called, declared}
+use Rattle.dg_decl.specs.Components.{hilt_count, is_component, component_headers, number_of_header, class_named, class_name, parent_of, deps_of}
 use Rattle.dg_decl.specs.Diagnostics.{diagnostics, IsAccepted}
 use Rattle.dg_decl.specs.Stages.Names.{instance_name, stands_before, Mention, mention, component_class, in_expr, mentions, is_component_item, is_defined_component_item, is_known, duplicate_name, unknown_name, names_stage}
 use Rattle.dg_decl.specs.Stages.Types.{types_stage}
@@ -34,9 +33,9 @@ use Rattle.dg_decl.proofs.MemberLemmas.{none_in, in_front, in_map, out_map, in_f
 use Rattle.dg_slots.specs.declared.session.Inst.{Inst}
 use Rattle.dg_slots.specs.Sessions.{open_lines, number_of_line, instance_before, inst_of, insts_of}
 use Rattle.dg_slots.specs.Links.{ties, linked_by, linked, links_of_line, links_of}
-use Rattle.dg_eval.specs.World.{inst_at, class_of_inst, parent_of_inst, chain_of_inst, link}
+use Rattle.dg_eval.specs.World.{inst_at, class_of_inst, parent_of_inst, link}
 use Rattle.dg_eval.proofs.AcceptedDepth.{not_nil, first_nil, nil_right, flat_nil}
-use Rattle.dg_eval.proofs.InputLists.{first_place, has_place, at_place, EachGiven, given_at, given_kept, found_is, finds_any}
+use Rattle.dg_eval.proofs.InputLists.{has_place, at_place, EachGiven, given_at, given_kept, found_is, finds_any}
 
 -- ---- the stages
 

@@ -1,5 +1,5 @@
--- The law of inputs: in an accepted document no look-up is left for the run. The numbers of an input
--- lead to a slot and, in each instance of the class that asks, to an instance.
+-- The law of inputs: in an accepted document no look-up is left for the run. The numbers of an
+-- input lead to a slot and, in each instance of the class that asks, to an instance.
 use Rattle.std.specs.Prelude.{◌≡◌, ℕ, length, Option, Some, option_and_then, slice_get, Contains}
 use Rattle.std.specs.Option.{option_map_or}
 use Rattle.dg_decl.specs.declared.document.Doc.{Doc}
@@ -10,7 +10,7 @@ use Rattle.dg_slots.specs.declared.plan.Input.{Input}
 use Rattle.dg_slots.specs.declared.plan.Slot.{Slot}
 use Rattle.dg_slots.specs.Plans.{inputs_of, plan_of}
 use Rattle.dg_eval.specs.World.{class_of_inst, chain_of_inst, link}
-use Rattle.dg_eval.specs.Meaning.{node_at, Target, target_of}
+use Rattle.dg_eval.specs.Meaning.{node_at, target_of}
 
 -- ---- where the numbers of an input lead
 
@@ -18,8 +18,8 @@ use Rattle.dg_eval.specs.Meaning.{node_at, Target, target_of}
 abbrev pub slot_at : Doc → ℕ → Option Slot
 slot_at doc k = slice_get (plan_of doc).slots k
 
--- the instance from which levels are counted: the one that asks, or that to which it is tied for the
--- dependency of the input
+-- the instance from which levels are counted: the one that asks, or that to which it is tied for
+-- the dependency of the input
 abbrev pub counted_from : Doc → ℕ → Input → Option ℕ
 counted_from doc i x = option_map_or (link doc i) x.dep (Some i)
 
@@ -60,6 +60,8 @@ pub record InputLeads (doc : Doc) (i m : ℕ) (n : Node) (d : Dependency) : Type
   pub input : Input
   -- input and dependency have one index
   pub is_input : slice_get (inputs_of doc n) m ≡ Some input
+  -- and one mode
+  pub mode : input.mode ≡ d.mode
   pub found : Node
   -- the slot is there
   pub is_slot : node_at doc input.slot ≡ Some found

@@ -16,9 +16,10 @@ pub fn evaluation_is_total()
     ensures exact { EvaluationIsTotal }
 {}
 
-/// No look-up is left for the run: in an accepted document each input of each slot of the plan leads
-/// by its numbers to a slot and, in each instance of the class that asks, to an instance, which are
-/// those that evaluation looks up; and each dependency of a node has its input, at the same index.
+/// No look-up is left for the run: in an accepted document each input of each slot of the plan
+/// leads by its numbers to a slot and, in each instance of the class of the slot that asks, to an
+/// instance. They are the slot and the instance that evaluation looks up, for slots of entry points
+/// too. Each dependency of a node has its input, at the same index.
 pub fn inputs_lead_to_slots()
     ensures exact { InputsLeadToSlots }
     ensures look_ups { InputsAreLookUps }
