@@ -3,7 +3,7 @@
 ghost use Rattle.std.specs.Prelude.{◌≡◌, ◌≤◌, length, IfOk};
 ghost use Rattle.dg_decl.specs.Bounds.{IsBounded};
 ghost use Rattle.dg_decl.specs.Components.{component_classes};
-ghost use Rattle.dg_decl.specs.Diagnostics.{IsAccepted, PassesDependencies};
+ghost use Rattle.dg_decl.specs.Diagnostics.{PassesDependencies};
 ghost use Rattle.dg_plan.specs.PlanLines.{plan_lines};
 ghost use Rattle.dg_top.specs.Answers.{AnswersDoc};
 ghost use Rattle.dg_top.specs.Output.{document_limit, IsAnswer};
@@ -47,10 +47,10 @@ fn in_tree(alloc: Global, d: &Doc, t: &CompTree) -> Result<Vec<u8>, NoMemory>
     Ok(text)
 }
 
-/// The lines of the plan of a document that breaks no rule.
+/// The lines of the plan of a document.
 fn lines_of_plan(alloc: Global, d: &Doc) -> Result<Vec<u8>, NoMemory>
     requires bounded { IsBounded d.now }
-    requires accepted { IsAccepted d.now }
+    requires passes { PassesDependencies d.now }
     ensures exact { IfOk result (λ text. text.items ≡ plan_lines d.now) }
 {
     match tree(alloc, d) {
@@ -61,6 +61,7 @@ fn lines_of_plan(alloc: Global, d: &Doc) -> Result<Vec<u8>, NoMemory>
 }
 
 /// The answer to a document: its diagnostics, or else the lines of its plan.
+#[tactic(auto, using(crate::proofs::StageLemmas::accepted_passes))]
 fn answer_doc(alloc: Global, d: &Doc) -> Result<Answer, NoMemory>
     requires bounded { IsBounded d.now }
     ensures exact { IfOk result (λ a. AnswersDoc d.now (plan_lines d.now) a.status a.text.items) }
