@@ -1,5 +1,6 @@
 //! `dagc`: reads a document from its standard input, and writes what its word asks for: `print` its
-//! canonical text, `check` its diagnostics, or `accepted` where there are none.
+//! canonical text, `check` its diagnostics, or `accepted` where there are none, `plan` its
+//! diagnostics, or the lines of its plan.
 #![tactic(auto)]
 
 use dg_io::{StdSink, StdSource};

@@ -15,10 +15,11 @@ use Rattle.dg_decl.specs.Reading as language
 use Rattle.dg_decl.specs.declared.violation.Violation.{Violation}
 use Rattle.dg_decl.specs.Canonical.{canonical_text}
 use Rattle.dg_decl.specs.Diagnostics.{diagnostics}
+use Rattle.dg_plan.specs.PlanLines.{plan_lines}
 use Rattle.dg_top.specs.declared.status.Status.{Status}
 use Rattle.dg_top.specs.declared.status.Status.TheVariants.{Ran, Refused, BadLine, TooLong}
 use Rattle.dg_top.specs.declared.command.Command.{Command}
-use Rattle.dg_top.specs.declared.command.Command.TheVariants.{Run, Print, Check}
+use Rattle.dg_top.specs.declared.command.Command.TheVariants.{Run, Print, Check, Plan}
 use Rattle.dg_top.specs.Output.{document_limit, too_long_text, bad_line_text, accepted_text, lines_of, HasFirstBad, IsAcceptedDocument, IsAnswer, too_long, bad_line, refused, ran}
 use Rattle.dg_top.specs.Runs.{TakesExactly}
 use Rattle.dg_top.specs.Answers.{Answers, to_long, AnswersItems, to_broken, to_good, AnswersFirstForms, to_first_bad, to_violations, to_report, AnswersDoc, to_refused, to_accepted}
@@ -74,15 +75,19 @@ pub answer_long : (command : Command) (left new_left : Option Bytes) (status : S
 answer_long command left new_left status text takes same is =
     subst (λ (s : Status). Answers command left new_left s text) (sym same) (subst (λ (x : Bytes). Answers command left new_left TooLong x) (sym is) (to_long takes))
 
--- ---- the answer to a document that is checked
+-- ---- the answer to a document that is checked or planned
 
-pub answer_refused : (doc : Doc) (vs : List Violation) (text : Bytes) → vs ≡ diagnostics doc → vs ≢ [] → text ≡ lines_of vs → AnswersDoc doc Refused text
-answer_refused doc vs text found some is =
-    subst (λ (x : Bytes). AnswersDoc doc Refused x) (sym (is ∙ ap lines_of found)) (to_refused (λ none. some (found ∙ none)))
+pub answer_refused : (doc : Doc) (good : Bytes) (vs : List Violation) (text : Bytes) → vs ≡ diagnostics doc → vs ≢ [] → text ≡ lines_of vs → AnswersDoc doc good Refused text
+answer_refused doc good vs text found some is =
+    subst (λ (x : Bytes). AnswersDoc doc good Refused x) (sym (is ∙ ap lines_of found)) (to_refused (λ none. some (found ∙ none)))
 
-pub answer_accepted : (doc : Doc) (vs : List Violation) (text : Bytes) → vs ≡ diagnostics doc → vs ≡ [] → text ≡ accepted_text → AnswersDoc doc Ran text
-answer_accepted doc vs text found none is = subst (λ (x : Bytes). AnswersDoc doc Ran x) (sym is) (to_accepted (sym found ∙ none))
+pub answer_accepted : (doc : Doc) (good : Bytes) (vs : List Violation) (text : Bytes) → vs ≡ diagnostics doc → vs ≡ [] → text ≡ good → AnswersDoc doc good Ran text
+answer_accepted doc good vs text found none is = subst (λ (x : Bytes). AnswersDoc doc good Ran x) (sym is) (to_accepted (sym found ∙ none))
 
-pub answer_checked : (bytes : Bytes) (doc : Doc) (status : Status) (text : Bytes) → length bytes ≤ document_limit → language.Reads bytes doc → AnswersDoc doc status text → IsAnswer Check bytes status text
+pub answer_checked : (bytes : Bytes) (doc : Doc) (status : Status) (text : Bytes) → length bytes ≤ document_limit → language.Reads bytes doc → AnswersDoc doc accepted_text status text → IsAnswer Check bytes status text
 answer_checked bytes doc status text within reads (to_refused broken) = refused within record { doc = doc; reads = reads; broken = broken; is_text = refl }
 answer_checked bytes doc status text within reads (to_accepted accepted) = ran within record { doc = doc; reads = reads; accepted = accepted; is_text = refl }
+
+pub answer_planned : (bytes : Bytes) (doc : Doc) (status : Status) (text : Bytes) → length bytes ≤ document_limit → language.Reads bytes doc → AnswersDoc doc (plan_lines doc) status text → IsAnswer Plan bytes status text
+answer_planned bytes doc status text within reads (to_refused broken) = refused within record { doc = doc; reads = reads; broken = broken; is_text = refl }
+answer_planned bytes doc status text within reads (to_accepted accepted) = ran within record { doc = doc; reads = reads; accepted = accepted; is_text = refl }

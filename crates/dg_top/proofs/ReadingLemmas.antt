@@ -11,8 +11,9 @@ use Rattle.dg_decl.specs.Reading as language
 use Rattle.dg_decl.proofs.OneReading as law
 use Rattle.dg_decl.specs.Canonical.{canonical_text}
 use Rattle.dg_decl.specs.Diagnostics.{diagnostics}
+use Rattle.dg_plan.specs.PlanLines.{plan_lines}
 use Rattle.dg_top.specs.declared.command.Command.{Command}
-use Rattle.dg_top.specs.declared.command.Command.TheVariants.{Run, Print, Check}
+use Rattle.dg_top.specs.declared.command.Command.TheVariants.{Run, Print, Check, Plan}
 use Rattle.dg_top.specs.Output.{lines_of, IsBroken, IsReported, IsDiagnosed, IsAcceptedDocument, HasFirstBad, Refuses, Gives}
 
 -- one document is read and no line is bad, or one line is the first bad one and no document is read
@@ -128,28 +129,34 @@ pub one_first_bad : (command : Command) (bytes : Bytes) (m n : ℕ) → HasFirst
 one_first_bad Run bytes m n f g = run_line bytes m n f g
 one_first_bad Check bytes m n f g = language_line bytes m n f g
 one_first_bad Print bytes m n f g = language_line bytes m n f g
+one_first_bad Plan bytes m n f g = language_line bytes m n f g
 
 pub one_refusal : (command : Command) (bytes x y : Bytes) → Refuses command bytes x → Refuses command bytes y → y ≡ x
 one_refusal Run bytes x y f g = run_refusal bytes x y f g
 one_refusal Print bytes x y f g = absurd f
 one_refusal Check bytes x y f g = one_diagnosed bytes x y f g
+one_refusal Plan bytes x y f g = one_diagnosed bytes x y f g
 
 pub one_given : (command : Command) (bytes x y : Bytes) → Gives command bytes x → Gives command bytes y → y ≡ x
 one_given Run bytes x y f g = one_reported bytes x y f.1 g.1
 one_given Check bytes x y f g = g.is_text ∙ sym f.is_text
 one_given Print bytes x y f g = g.is_text ∙ ap canonical_text (language_doc bytes f.doc g.doc f.reads g.reads) ∙ sym f.is_text
+one_given Plan bytes x y f g = g.is_text ∙ ap plan_lines (language_doc bytes f.doc g.doc f.reads g.reads) ∙ sym f.is_text
 
 pub bad_isnt_refused : (command : Command) (bytes : Bytes) (n : ℕ) (x : Bytes) → HasFirstBad command bytes n → Refuses command bytes x → ⊥
 bad_isnt_refused Run bytes n x f g = run_bad_refused bytes n x f g
 bad_isnt_refused Print bytes n x f g = g
 bad_isnt_refused Check bytes n x f g = language_not_both bytes n g.doc f g.reads
+bad_isnt_refused Plan bytes n x f g = language_not_both bytes n g.doc f g.reads
 
 pub bad_isnt_given : (command : Command) (bytes : Bytes) (n : ℕ) (x : Bytes) → HasFirstBad command bytes n → Gives command bytes x → ⊥
 bad_isnt_given Run bytes n x f g = run_bad_given bytes n x f g.0 g.1
 bad_isnt_given Check bytes n x f g = language_not_both bytes n g.doc f g.reads
 bad_isnt_given Print bytes n x f g = language_not_both bytes n g.doc f g.reads
+bad_isnt_given Plan bytes n x f g = language_not_both bytes n g.doc f g.reads
 
 pub refused_isnt_given : (command : Command) (bytes x y : Bytes) → Refuses command bytes x → Gives command bytes y → ⊥
 refused_isnt_given Run bytes x y f g = run_refused_given bytes x y f g.0 g.1
 refused_isnt_given Print bytes x y f g = f
 refused_isnt_given Check bytes x y f g = f.broken (ap diagnostics (language_doc bytes g.doc f.doc g.reads f.reads) ∙ g.accepted)
+refused_isnt_given Plan bytes x y f g = f.broken (ap diagnostics (language_doc bytes g.doc f.doc g.reads f.reads) ∙ g.accepted)

@@ -7,7 +7,7 @@ use Rattle.dg_top.specs.declared.status.Status.{Status}
 use Rattle.dg_top.specs.declared.status.Status.TheVariants.{Ran, Refused, BadWords, BadLine, ReadFault, WriteFault, NoMemory, TooLong}
 use Rattle.dg_top.specs.declared.command.Program.{Program}
 use Rattle.dg_top.specs.declared.command.Command.{Command}
-use Rattle.dg_top.specs.declared.command.Command.TheVariants.{Run, Print, Check}
+use Rattle.dg_top.specs.declared.command.Command.TheVariants.{Run, Print, Check, Plan}
 use Rattle.dg_top.specs.Commands.{AsksFor, HasNoWords}
 use Rattle.dg_top.specs.Output.{document_limit, too_long_text, bad_line_text, HasFirstBad, Refuses, Gives, IsAnswer, too_long, bad_line, refused, ran, IsOutput, bad_words, answered}
 use Rattle.dg_top.specs.Runs.{WritesAll, WritesLess, Writes, TakesExactly, BadLineExactly, RefusedExactly, TooLongExactly, IsComplete}
@@ -171,17 +171,24 @@ is_neither : (status : Status) (C : Type 0) (other : Status) → WritesNothing s
 is_neither status C other (inl read) same one two = one (sym same ∙ read.0)
 is_neither status C other (inr memory) same one two = two (sym same ∙ memory)
 
--- a printed text is empty, or nothing is a front of it
+-- a printed or planned text is empty, or nothing is a front of it
 printed_less : (p : Program) (words : List Bytes) (bytes : Bytes) (old : Option Bytes) (text : Bytes) → AsksFor p words Print → IsAnswer Print bytes Ran text → WritesLess p words bytes old old
-printed_less p words bytes old [] asks answer = inr (asks, answer, appends_none old)
+printed_less p words bytes old [] asks answer = inr (inl (asks, answer, appends_none old))
 printed_less p words bytes old (b ∷ text) asks answer =
     let less : 0 < length (b ∷ text) = omega arith in
     inl (Ran, b ∷ text, 0, answered Print asks answer, less, appends_none old)
+
+planned_less : (p : Program) (words : List Bytes) (bytes : Bytes) (old : Option Bytes) (text : Bytes) → AsksFor p words Plan → IsAnswer Plan bytes Ran text → WritesLess p words bytes old old
+planned_less p words bytes old [] asks answer = inr (inr (asks, answer, appends_none old))
+planned_less p words bytes old (b ∷ text) asks answer =
+    let less : 0 < length (b ∷ text) = omega arith in
+    inl (Ran, b ∷ text, 0, answered Plan asks answer, less, appends_none old)
 
 given_less : (p : Program) (words : List Bytes) (command : Command) (bytes : Bytes) (old : Option Bytes) (text : Bytes) → AsksFor p words command → length bytes ≤ document_limit → Gives command bytes text → WritesLess p words bytes old old
 given_less p words Run bytes old text asks within gives = inl (Ran, text, 0, answered Run asks (ran within gives), report_is_some bytes text gives, appends_none old)
 given_less p words Check bytes old text asks within gives = inl (Ran, text, 0, answered Check asks (ran within gives), accepted_is_some bytes text gives, appends_none old)
 given_less p words Print bytes old text asks within gives = printed_less p words bytes old text asks (ran within gives)
+given_less p words Plan bytes old text asks within gives = planned_less p words bytes old text asks (ran within gives)
 
 module _ (p : Program) (words : List Bytes) (command : Command) (asks : AsksFor p words command) where
   output_is : (left new_left : Option Bytes) (status : Status) (text xs : Bytes) → Answers command left new_left status text → left ≡ Some xs → IsOutput p words xs status text

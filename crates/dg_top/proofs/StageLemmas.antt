@@ -3,7 +3,7 @@ use Rattle.std.proofs.Common.{◌≡◌, List, [], ◌∷◌, refl, sym, ◌∙�
 use Rattle.std.specs.Prelude.{◌≢◌}
 use Rattle.dg_decl.specs.declared.document.Doc.{Doc}
 use Rattle.dg_decl.specs.declared.violation.Violation.{Violation}
-use Rattle.dg_decl.specs.Diagnostics.{first_found, diagnostics, PassesDependencies}
+use Rattle.dg_decl.specs.Diagnostics.{first_found, diagnostics, IsAccepted, PassesDependencies}
 use Rattle.dg_decl.specs.Stages.Names.{names_stage}
 use Rattle.dg_decl.specs.Stages.Types.{types_stage}
 use Rattle.dg_decl.specs.Stages.Components.{components_stage}
@@ -126,3 +126,16 @@ module _ (doc : Doc) (found : List Violation) where
 -- the stage of dependencies passes too
 pub passes_dependencies : (doc : Doc) → names_stage doc ≡ [] → types_stage doc ≡ [] → components_stage doc ≡ [] → dependencies_stage doc ≡ [] → PassesDependencies doc
 passes_dependencies doc names types components dependencies = record { names = names; types = types; components = components; dependencies = dependencies }
+
+none_first : (xs : List Violation) (later : List (List Violation)) → first_found (xs ∷ later) ≡ [] → (xs ≡ []) × (first_found later ≡ [])
+none_first [] later none = (refl, none)
+none_first (x ∷ xs) later none = absurd (let e : x ∷ xs ≡ [] = none in cc)
+
+-- so they do in a document that breaks no rule
+pub accepted_passes : (doc : Doc) → IsAccepted doc → PassesDependencies doc
+accepted_passes doc accepted =
+    let names = none_first (names_stage doc) (behind_names doc) (sym (from_names doc) ∙ accepted) in
+    let types = none_first (types_stage doc) (behind_types doc) names.1 in
+    let components = none_first (components_stage doc) (behind_components doc) types.1 in
+    let dependencies = none_first (dependencies_stage doc) (behind_dependencies doc) components.1 in
+    passes_dependencies doc names.0 types.0 components.0 dependencies.0

@@ -11,7 +11,7 @@ use Rattle.dg_early.specs.Report.{report}
 use Rattle.dg_early.specs.Rules.{violations, diagnostics as first_diagnostics}
 use Rattle.dg_decl.specs.declared.document.Doc.{Doc}
 use Rattle.dg_decl.specs.Diagnostics.{diagnostics, IsAccepted}
-use Rattle.dg_top.specs.Output.{document_limit, too_long_text, bad_line_text, accepted_text}
+use Rattle.dg_top.specs.Output.{document_limit, too_long_text, bad_line_text}
 use Rattle.dg_top.specs.Output.{lines_of, IsBroken, IsReported, IsAnswer}
 use Rattle.dg_top.specs.Runs.{TakesExactly}
 
@@ -27,10 +27,10 @@ pub data AnswersFirstForms (bytes : Bytes) : Status → Bytes → Type 0 where
   to_violations : {text : Bytes} → IsBroken bytes text → AnswersFirstForms bytes Refused text
   to_report : {text : Bytes} → IsReported bytes text → AnswersFirstForms bytes Ran text
 
--- the diagnostics of a document, or that it has none
-pub data AnswersDoc (doc : Doc) : Status → Bytes → Type 0 where
-  to_refused : diagnostics doc ≢ [] → AnswersDoc doc Refused (lines_of (diagnostics doc))
-  to_accepted : IsAccepted doc → AnswersDoc doc Ran accepted_text
+-- the diagnostics of a document, or this text where it has none
+pub data AnswersDoc (doc : Doc) (good : Bytes) : Status → Bytes → Type 0 where
+  to_refused : diagnostics doc ≢ [] → AnswersDoc doc good Refused (lines_of (diagnostics doc))
+  to_accepted : IsAccepted doc → AnswersDoc doc good Ran good
 
 -- all bytes were taken and this is the answer to them, or the byte past the limit was taken
 pub data Answers (command : Command) (left new_left : Option Bytes) : Status → Bytes → Type 0 where

@@ -13,12 +13,13 @@ use Rattle.dg_decl.specs.declared.violation.Violation.{Violation}
 use Rattle.dg_decl.specs.Canonical.{canonical_text}
 use Rattle.dg_decl.specs.Diagnostics.{diagnostics, IsAccepted}
 use Rattle.dg_diag.specs.Lines.{line_of}
+use Rattle.dg_plan.specs.PlanLines.{plan_lines}
 use Rattle.dg_top.specs.declared.status.Status.{Status}
 use Rattle.dg_top.specs.declared.status.Status.TheVariants.{Ran, Refused, BadWords, BadLine}
 use Rattle.dg_top.specs.declared.status.Status.TheVariants.{TooLong}
 use Rattle.dg_top.specs.declared.command.Program.{Program}
 use Rattle.dg_top.specs.declared.command.Command.{Command}
-use Rattle.dg_top.specs.declared.command.Command.TheVariants.{Run, Print, Check}
+use Rattle.dg_top.specs.declared.command.Command.TheVariants.{Run, Print, Check, Plan}
 use Rattle.dg_top.specs.Commands.{AsksFor, HasNoWords}
 
 -- the most bytes of a document
@@ -82,6 +83,13 @@ pub record IsApproved (bytes text : Bytes) : Type 0 where
   pub accepted : IsAccepted doc
   pub is_text : text ≡ accepted_text
 
+-- it breaks none, and this text is the lines of its plan
+pub record IsPlanned (bytes text : Bytes) : Type 0 where
+  pub doc : Doc
+  pub reads : language.Reads bytes doc
+  pub accepted : IsAccepted doc
+  pub is_text : text ≡ plan_lines doc
+
 -- ---- what is read for a command, and what it gives
 
 -- A run reads and judges a document as a check does. A document that is accepted is answered by the
@@ -93,18 +101,21 @@ HasFirstBad Run bytes n = language.FirstBad bytes n
     ⊎ (IsAcceptedDocument bytes × first_forms.FirstBad bytes n)
 HasFirstBad Print bytes n = language.FirstBad bytes n
 HasFirstBad Check bytes n = language.FirstBad bytes n
+HasFirstBad Plan bytes n = language.FirstBad bytes n
 
 -- a document is read, and is refused with this text
 abbrev pub Refuses : Command → Bytes → Bytes → Type 0
 Refuses Run bytes text = IsDiagnosed bytes text ⊎ (IsAcceptedDocument bytes × IsBroken bytes text)
 Refuses Print bytes text = ⊥
 Refuses Check bytes text = IsDiagnosed bytes text
+Refuses Plan bytes text = IsDiagnosed bytes text
 
 -- a document is read, and gives this text
 abbrev pub Gives : Command → Bytes → Bytes → Type 0
 Gives Run bytes text = IsAcceptedDocument bytes × IsReported bytes text
 Gives Print bytes text = IsPrinted bytes text
 Gives Check bytes text = IsApproved bytes text
+Gives Plan bytes text = IsPlanned bytes text
 
 -- A command over these bytes has this status and text. The first case that fits is the only one:
 -- too many bytes, then a bad line, then a document that is refused, and then one that isn't.

@@ -6,7 +6,7 @@ use Rattle.dg_top.specs.declared.status.Status.{Status}
 use Rattle.dg_top.specs.declared.status.Status.TheVariants.{Ran, Refused, BadWords, BadLine, ReadFault, WriteFault, NoMemory, TooLong}
 use Rattle.dg_top.specs.declared.command.Program.{Program}
 use Rattle.dg_top.specs.declared.command.Command.{Command}
-use Rattle.dg_top.specs.declared.command.Command.TheVariants.{Print}
+use Rattle.dg_top.specs.declared.command.Command.TheVariants.{Print, Plan}
 use Rattle.dg_lex.specs.Bytes.{Bytes}
 use Rattle.dg_top.specs.Commands.{AsksFor}
 use Rattle.dg_top.specs.Output.{document_limit, too_long_text, bad_line_text, HasFirstBad, Refuses}
@@ -22,10 +22,11 @@ abbrev pub WritesFront : Program → List Bytes → Bytes → Option Bytes → O
 WritesFront program words bytes old new = (status : Status) × (text : Bytes) × (n : ℕ)
     × IsOutput program words bytes status text × (n < length text) × Appends old new (take n text)
 
--- the same, or an empty document is printed, whose text is empty; each other text has a byte
+-- the same, or a document whose text is empty is printed or planned; each other text has a byte
 abbrev pub WritesLess : Program → List Bytes → Bytes → Option Bytes → Option Bytes → Type 0
 WritesLess program words bytes old new = WritesFront program words bytes old new
     ⊎ (AsksFor program words Print × IsAnswer Print bytes Ran [] × Appends old new [])
+    ⊎ (AsksFor program words Plan × IsAnswer Plan bytes Ran [] × Appends old new [])
 
 -- What is written for these words and the bytes that were left, where the source tells them: the
 -- output with its status; a front of it where writing or memory failed; nothing where reading

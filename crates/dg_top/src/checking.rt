@@ -16,7 +16,7 @@ use dg_types::NoMemory;
 use std::alloc::Global;
 
 /// The lines of violations, one after another.
-fn lines_of(alloc: Global, broken: &[Violation]) -> Result<Vec<u8>, NoMemory>
+pub fn lines_of(alloc: Global, broken: &[Violation]) -> Result<Vec<u8>, NoMemory>
     ensures exact { IfOk result (λ text. text.items ≡ lines_of broken.now) }
 {
     let mut text = Vec::new(alloc);
@@ -36,7 +36,7 @@ fn accepted(alloc: Global) -> Result<Vec<u8>, NoMemory>
 /// The answer to a document: its diagnostics, or else that it is accepted.
 fn answer_doc(alloc: Global, d: &Doc) -> Result<Answer, NoMemory>
     requires bounded { IsBounded d.now }
-    ensures exact { IfOk result (λ a. AnswersDoc d.now a.status a.text.items) }
+    ensures exact { IfOk result (λ a. AnswersDoc d.now accepted_text a.status a.text.items) }
 {
     let broken = diagnostics(alloc, d)?;
     if is_found(broken.as_slice()) {

@@ -19,6 +19,8 @@ pub enum Command {
     Print,
     /// Whether a document breaks no rule, or its diagnostics.
     Check,
+    /// The slots of an accepted document, or its diagnostics.
+    Plan,
 }
 
 /// What the words ask a program for.
@@ -53,6 +55,7 @@ fn check_command(words: &[String]) -> Option<Command>
     match word.as_str() {
         "print" => Some(Command::Print),
         "check" => Some(Command::Check),
+        "plan" => Some(Command::Plan),
         _ => None,
     }
 }

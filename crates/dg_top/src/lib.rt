@@ -8,6 +8,7 @@ mod diagnosing;
 mod input;
 mod output;
 mod perform;
+mod planning;
 mod printing;
 mod run;
 mod running;

@@ -15,6 +15,7 @@ use crate::checking::answer_check;
 use crate::command::{Command, Program, command_of};
 use crate::input::{InputFault, read_all};
 use crate::output::write_all;
+use crate::planning::answer_plan;
 use crate::printing::answer_print;
 use crate::running::answer_run;
 use crate::status::Status;
@@ -31,6 +32,7 @@ fn answer_to(alloc: Global, command: Command, bytes: &[u8]) -> Result<Answer, No
         Command::Run => answer_run(alloc, bytes),
         Command::Print => answer_print(alloc, bytes),
         Command::Check => answer_check(alloc, bytes),
+        Command::Plan => answer_plan(alloc, bytes),
     }
 }
 

@@ -68,9 +68,9 @@ pub fn run_top<S: Source, K: Sink, G: Gate + Send>(
 
 /// Reads a document from the source, and writes what the words ask for to the sink: the word
 /// `print` asks for its canonical text, whether or not it breaks a rule; `check` asks for its
-/// diagnostics, or for `accepted` where there are none. The words are those of the command line
-/// without the program's name. It reads and writes in the order of the statuses: words, then the
-/// source to its end, then the sink.
+/// diagnostics, or for `accepted` where there are none; `plan` asks for its diagnostics, or for the
+/// lines of its plan. The words are those of the command line without the program's name. It reads
+/// and writes in the order of the statuses: words, then the source to its end, then the sink.
 pub fn check_top<S: Source, K: Sink>(
     alloc: Global,
     words: &[String],

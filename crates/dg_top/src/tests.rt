@@ -151,6 +151,18 @@ fn a_document_is_printed_however_the_bytes_come(rt: HostRuntime) -> Result<(), F
 }
 
 #[test]
+fn a_plan_has_a_line_for_each_slot(rt: HostRuntime) -> Result<(), Fail> {
+    let words = [String::from_str(rt.alloc(), "plan")?];
+    let text = b"@Inject class Db()\ncomponent App {\n  entry db : Db\n}\n".as_slice();
+    let mut source = MemSource::new(text.to_vec(rt.alloc())?, 4096, Vec::new(rt.alloc()));
+    let mut sink = MemSink::with_room(rt.alloc(), 64, Vec::new(rt.alloc()))?;
+    let status = check_top(rt.alloc(), &words, &mut source, &mut sink);
+    assert_eq!(rt; status, Status::Ran);
+    assert_eq!(rt; sink.bytes(), b"0 App/Db\n1 App/App.db =i:0\n".as_slice());
+    Ok(())
+}
+
+#[test]
 fn a_bad_line_is_named_before_what_the_entries_break(rt: HostRuntime) -> Result<(), Fail> {
     let text = b"\
 component App {

@@ -1,3 +1,4 @@
+use Rattle.dg_top.specs.Output.{accepted_text}
 use Rattle.dg_top.proofs.AnswerLemmas.{answer_refused, answer_accepted}
 use Rattle.dg_top.proofs.checking.answer_doc.Goals as goal
 
@@ -6,7 +7,7 @@ returns-then-is_found c =
     let broken = c.in_ok-broken.broken in
     let some = rw c.as_slice.ensures.value at (c.is_found.ensures.found c.if-is_found.true) in
     record {
-      exact = answer_refused c.args.d.now broken.items c.in_ok-lines_of.field-0.items c.in_ok-broken.ensures.exact some (rw c.as_slice-then-is_found.ensures.value at c.in_ok-lines_of.ensures.exact);
+      exact = answer_refused c.args.d.now accepted_text broken.items c.in_ok-lines_of.field-0.items c.in_ok-broken.ensures.exact some (rw c.as_slice-then-is_found.ensures.value at c.in_ok-lines_of.ensures.exact);
     }
 
 pub returns : goal.returns
@@ -14,5 +15,5 @@ returns c =
     let broken = c.in_ok-broken.broken in
     let none = rw c.as_slice.ensures.value at (c.is_found.ensures.nothing c.if-is_found.false) in
     record {
-      exact = answer_accepted c.args.d.now broken.items c.in_ok-accepted.field-0.items c.in_ok-broken.ensures.exact none c.in_ok-accepted.ensures.exact;
+      exact = answer_accepted c.args.d.now accepted_text broken.items c.in_ok-accepted.field-0.items c.in_ok-broken.ensures.exact none c.in_ok-accepted.ensures.exact;
     }
