@@ -8,4 +8,6 @@ pub mod NamesWanted
 pub mod NamesJudged
 pub mod NamesLines
 pub mod NamesRepeated
+pub mod NamesMemberLemmas
+pub mod NamesLoop
 pub mod NamesFolds

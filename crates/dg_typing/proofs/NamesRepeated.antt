@@ -9,7 +9,7 @@ use Rattle.dg_hilt.specs.Names.{predefined_names}
 use Rattle.dg_decl.specs.declared.document.Doc.{Doc}
 use Rattle.dg_decl.specs.declared.item.Item.{Item}
 use Rattle.dg_decl.specs.Document.{Statement, statements, statements_from, open_behind}
-use Rattle.dg_decl.specs.Names.{outer_name, is_called, declared}
+use Rattle.dg_decl.specs.Names.{outer_name, member_name, is_called, declared}
 use Rattle.std.specs.Bool.{one_answer}
 use Rattle.std.specs.Str.{bytes_eq}
 use Rattle.std.proofs.lemmas.Slice.Eq.{bytes_eq-Decides}
@@ -19,10 +19,11 @@ use Rattle.dg_decl.specs.declared.item.Param.{Param}
 use Rattle.dg_decl.specs.declared.violation.Rule.TheVariants as rule
 use Rattle.dg_decl.specs.declared.violation.Violation.{Violation}
 use Rattle.dg_decl.specs.Stages.Components.{at_line}
-use Rattle.dg_decl.specs.Stages.Names.{has_earlier, anywhere, repeated_among, repeated_outer, repeated_member, repeated_params, repeated_instance, duplicate_name}
+use Rattle.dg_decl.specs.Stages.Names.{has_earlier, same_block, anywhere, repeated_among, repeated_outer, repeated_member, repeated_params, repeated_instance, duplicate_name}
+use Rattle.dg_typing.specs.NamesMembers.{is_member_again}
 use Rattle.dg_typing.specs.NamesWanted.{is_param}
 
-bytes_eq_turned : (a b : Bytes) → bytes_eq a b ≡ bytes_eq b a
+pub bytes_eq_turned : (a b : Bytes) → bytes_eq a b ≡ bytes_eq b a
 bytes_eq_turned a b = one_answer (bytes_eq a b) (bytes_eq b a) (bytes_eq-Decides a b)
     ((λ e. sym ((bytes_eq-Decides b a).0 e)), (λ e. (bytes_eq-Decides b a).1 (sym e)))
 
@@ -260,6 +261,19 @@ kept_none s old test o is = sym (append-nil old)
     ∙ ap (λ (p : Option Bytes). old ++ map (at_line rule.DuplicateName s)
     (filter test (option_to_list p))) is
 
+-- nothing is added for a statement that is no member
+pub none_more : (s : Statement) (again : Bool) (old : List Violation) → None ≡ member_name s.item
+    → old ≡ old ++ map (at_line rule.DuplicateName s)
+    (if again then option_to_list (member_name s.item) else [])
+none_more s again old is = by again
+    ∙ ap (λ (o : Option Bytes). old ++ map (at_line rule.DuplicateName s)
+    (if again then option_to_list o else [])) is
+  where
+    by : (b : Bool) → old ≡ old ++ map (at_line rule.DuplicateName s)
+        (if b then option_to_list None else [])
+    by true = sym (append-nil old)
+    by false = sym (append-nil old)
+
 pub ok_as : {V E : Type 0} (r : Result V E) (s : Statement) (old new : List Violation)
     (ks ls : List Bytes) → ks ≡ ls
     → OnOk r (new ≡ old ++ map (at_line rule.DuplicateName s) ks)
@@ -267,3 +281,16 @@ pub ok_as : {V E : Type 0} (r : Result V E) (s : Statement) (old new : List Viol
 ok_as (Ok x) s old new ks ls are added =
     added ∙ ap (λ (ns : List Bytes). old ++ map (at_line rule.DuplicateName s) ns) are
 ok_as (Err e) s old new ks ls are added = tt
+
+-- a member's name, where it is told that it is declared again
+pub told_again : (doc : Doc) (s : Statement) (again : Bool) → again ≡ is_member_again doc s
+    → (if again then option_to_list (member_name s.item) else []) ≡ repeated_member doc s
+told_again doc s again tells =
+    ap (λ (b : Bool). if b then option_to_list (member_name s.item) else []) tells
+    ∙ by (member_name s.item)
+  where
+    by : (o : Option Bytes) → (if option_map_or (has_earlier member_name
+        (λ e. same_block e.block s.block) doc s) o false then option_to_list o else [])
+        ≡ filter (has_earlier member_name (λ e. same_block e.block s.block) doc s) (option_to_list o)
+    by None = refl
+    by (Some n) = refl

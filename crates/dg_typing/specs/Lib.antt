@@ -5,3 +5,4 @@ pub mod TypesPlaced
 pub mod NamesWanted
 pub mod NamesJudged
 pub mod NamesLines
+pub mod NamesMembers

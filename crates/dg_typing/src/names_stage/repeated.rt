@@ -1,16 +1,14 @@
 //! Names that are declared again: a function for each kind of names.
 
-ghost use Rattle.std.specs.Prelude.{◌≡◌, ◌++◌, ◌∷◌, ◌||◌, ◌&&◌, [], OnOk, map, option_map, nat_lt, take, false, if◌then◌else◌};
-ghost use Rattle.std.specs.List.{list_any};
+ghost use Rattle.std.specs.Prelude.{◌≡◌, ◌++◌, ◌∷◌, ◌||◌, [], OnOk, map, option_map, nat_lt, false, if◌then◌else◌, option_to_list};
 ghost use Rattle.std.specs.Option.{option_map_or};
-ghost use Rattle.std.specs.Str.{bytes_eq};
 ghost use Rattle.dg_lex.specs.Bytes.{is_among};
 ghost use Rattle.dg_hilt.specs.Names.{predefined_names};
 ghost use Rattle.dg_decl.specs.declared.violation.Rule.TheVariants as rule;
-ghost use Rattle.dg_decl.specs.Document as document;
-ghost use Rattle.dg_decl.specs.Names.{member_name, is_called, declared};
+ghost use Rattle.dg_decl.specs.Names.{member_name, declared};
 ghost use Rattle.dg_decl.specs.Stages.Components.{at_line};
 ghost use Rattle.dg_decl.specs.Stages.Names as spec;
+ghost use Rattle.dg_typing.specs.NamesMembers.{is_member_again};
 ghost use Rattle.dg_typing.specs.NamesWanted.{is_param};
 
 use super::wanted::is_param;
@@ -158,76 +156,36 @@ fn repeated_params(
     repeated_among(alloc, s, s.item.params(), out)
 }
 
-/// Whether a statement is a member of this name in this block.
-fn is_member(e: &Statement<'_>, block: Option<u32>, name: &[u8]) -> bool
-    ensures exact { result
-        ≡ (spec.same_block e.now.block block && is_called member_name name.now e.now) }
-{
-    e.block == block && has_member_name(e.item, name)
-}
-
-/// Whether an item has this name in its block.
-fn has_member_name(item: &Item, name: &[u8]) -> bool
-    ensures exact { result ≡ option_map_or (λ m. bytes_eq m name.now) (member_name item.now) false }
-{
-    match item.member_name() {
-        Some(own) => own.as_slice() == name,
-        None => false,
-    }
-}
-
-/// Whether one of the first statements, so many of them, is a member of this name in this block.
-fn is_among_members(names: &Names<'_>, count: u32, block: Option<u32>, name: &[u8]) -> bool
-    ensures exact { result ≡ list_any
-        (λ e. spec.same_block e.block block && is_called member_name name.now e)
-        (take count (document.statements names.now)) }
-{
-    names
-        .statements()
-        .iter()
-        .take(count as usize)
-        .any(|e| is_member(e, block, name))
-}
-
-/// Whether an earlier member of the block of a statement has this name.
-fn is_member_before(names: &Names<'_>, s: &Statement<'_>, name: &Name) -> bool
-    ensures exact { result ≡ spec.has_earlier member_name
-        (λ e. spec.same_block e.block s.now.block) names.now s.now name.now }
-{
-    is_among_members(names, s.index, s.block, name.as_slice())
-}
-
 /// The name of a member, where it is declared again in its block.
 fn repeated_member(
     alloc: Global,
-    names: &Names<'_>,
     s: &Statement<'_>,
+    again: bool,
     out: &mut Vec<Violation>,
 ) -> Result<(), NoMemory>
-    ensures exact { OnOk result (out.new.items ≡ out.old.items
-        ++ map (at_line rule.DuplicateName s.now) (spec.repeated_member names.now s.now)) }
+    ensures exact { OnOk result (out.new.items ≡ out.old.items ++ map (at_line rule.DuplicateName s.now)
+        (if again then option_to_list (member_name s.now.item) else [])) }
 {
     match s.item.member_name() {
-        Some(name) => {
-            let again = is_member_before(names, s, name);
-            push_repeated(alloc, s, again, name, out)
-        }
+        Some(name) => push_repeated(alloc, s, again, name, out),
         None => Ok(()),
     }
 }
 
-/// Adds each name that a statement declares again.
+/// Adds each name that a statement declares again. Of a member it is told whether it does.
 pub fn duplicate_name(
     alloc: Global,
     names: &Names<'_>,
     s: &Statement<'_>,
+    member_again: bool,
     out: &mut Vec<Violation>,
 ) -> Result<(), NoMemory>
+    requires told { member_again ≡ is_member_again names.now s.now }
     ensures exact { OnOk result (out.new.items ≡ out.old.items
         ++ spec.duplicate_name names.now s.now) }
 {
     repeated_outer(alloc, names, s, out)?;
-    repeated_member(alloc, names, s, out)?;
+    repeated_member(alloc, s, member_again, out)?;
     repeated_params(alloc, s, out)?;
     repeated_instance(alloc, names, s, out)?;
     Ok(())

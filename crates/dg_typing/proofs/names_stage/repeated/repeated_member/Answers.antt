@@ -1,32 +1,23 @@
-use Rattle.std.proofs.Common.{◌||◌, ap, ◌∙◌}
-use Rattle.dg_lex.specs.Bytes.{is_among}
-use Rattle.dg_hilt.specs.Names.{predefined_names}
+use Rattle.std.proofs.Common.{List, Option, [], if◌then◌else◌, ap, ◌∙◌}
+use Rattle.std.specs.Prelude.{option_to_list}
+use Rattle.dg_lex.specs.Bytes.{Bytes}
 use Rattle.dg_decl.specs.Document.{Statement}
 use Rattle.dg_decl.specs.Names.{member_name}
-use Rattle.dg_decl.specs.Stages.Names.{has_earlier, same_block}
-use Rattle.dg_typing.proofs.NamesRepeated.{kept_one, kept_none, ok_as, declared_before}
+use Rattle.dg_typing.proofs.NamesRepeated.{ok_as, none_more}
 use Rattle.dg_typing.proofs.names_stage.repeated.repeated_member.Goals as goal
 
 pub returns-in-Some : goal.returns-in-Some
 returns-in-Some c =
-    let doc = c.args.names.now in
     let s = c.args.s.now in
-    let name = c.in-Some.name.now in
     record {
       exact = ok_as c.push_repeated.result s c.args.out.now.items c.push_repeated.new.out.items _ _
-          (kept_one (λ n. has_earlier member_name (λ e. same_block e.block s.block) doc s n)
-          (member_name s.item) name c.is_member_before-again.result
-          (c.in-Some.ensures.exact ∙ ap (λ (t : Statement). member_name t.item) c.s.view_is)
-          (c.is_member_before-again.ensures.exact))
+          (ap (λ (o : Option Bytes). if c.args.again then option_to_list o else [])
+          (c.in-Some.ensures.exact ∙ ap (λ (t : Statement). member_name t.item) c.s.view_is))
           c.push_repeated.ensures.exact;
     }
 
 pub returns-in-None : goal.returns-in-None
-returns-in-None c =
-    let doc = c.args.names.now in
-    let s = c.args.s.now in
-    record {
-      exact = kept_none s c.args.out.now.items (λ n. has_earlier member_name (λ e. same_block e.block s.block) doc s n)
-          (member_name s.item)
-          (c.in-None.ensures.exact ∙ ap (λ (t : Statement). member_name t.item) c.s.view_is);
-    }
+returns-in-None c = record {
+  exact = none_more c.args.s.now c.args.again c.args.out.now.items
+      (c.in-None.ensures.exact ∙ ap (λ (t : Statement). member_name t.item) c.s.view_is);
+}
