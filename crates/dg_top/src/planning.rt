@@ -61,7 +61,6 @@ fn lines_of_plan(alloc: Global, d: &Doc) -> Result<Vec<u8>, NoMemory>
 }
 
 /// The answer to a document: its diagnostics, or else the lines of its plan.
-#[tactic(auto, using(crate::proofs::StageLemmas::accepted_passes))]
 fn answer_doc(alloc: Global, d: &Doc) -> Result<Answer, NoMemory>
     requires bounded { IsBounded d.now }
     ensures exact { IfOk result (λ a. AnswersDoc d.now (plan_lines d.now) a.status a.text.items) }
