@@ -18,7 +18,7 @@ pub loop-s-preserved : goal.loop-s-preserved
 loop-s-preserved c =
     lemmas.breaks_next c.args.names.now c.statements-s-items.result.now c.loop-s.s-index
     c.s-item.result c.loop-s.members c.note.new.self c.loop-s.broken.items
-    c.names_at.new.broken.items c.loop-s-test.true c.s-item.is c.loop-s.invariant
+    c.names_at.new.out.items c.loop-s-test.true c.s-item.is c.loop-s.invariant
     c.in_ok-again.ensures.noted c.in_ok-names_at.ensures.exact
 
 pub returns : goal.returns
