@@ -33,7 +33,7 @@ use Rattle.dg_eval.specs.Runs.{Run, cell, lazy, gives, and_then, asking, all, mi
 use Rattle.dg_eval.specs.World.{bound_value}
 use Rattle.dg_eval.specs.Operations.{or_mistyped, only_of, elements_in, kept_in, value_if}
 use Rattle.dg_eval.specs.Bodies.{End, value_end, producer_end, tree_part}
-use Rattle.dg_eval.specs.Meaning.{node_at, is_cell, cell_place, Eval, content, held, instance, lazy_content, give, got_at, look_at, look, target_of, step_to, given_one, given, first_target, producer_from, awaited_slot, awaited_at, param_in, around, body_of, end_with, object_of, of_end, member_end, outcomes_in, added_by, added_by_all, set_of_added, multi_of, optional_of, binding_at, eval_node, eval}
+use Rattle.dg_eval.specs.Meaning.{node_at, node_in, is_cell, cell_place, Eval, content, held, instance, lazy_content, give, got_at, look_at, look, target_of, step_to, given_one, given, first_target, producer_from, awaited_slot, awaited_at, param_in, around, body_of, end_with, object_of, of_end, member_end, outcomes_in, added_by, added_by_all, set_of_added, multi_of, optional_of, binding_at, eval_node, eval}
 use Rattle.dg_slots.specs.Plans.{gives_elements}
 use Rattle.dg_eval.specs.Laws.{MoreDepthChangesNothing}
 use Rattle.dg_eval.proofs.RunGrowth.{Grows, grows_same, grows_on, stays, then_grows, asking_grows, outcome_grows, if_grows, all_grow}
@@ -278,7 +278,7 @@ pub eval_grows : (doc : Doc) (d : ℕ) → EvalGrows (eval doc d) (eval doc (suc
 unfolding eval
 eval_grows doc zero i k q = tt
 eval_grows doc (suc d) i k q =
-    option_grows (node_at doc k) _ _ mistyped
+    option_grows (node_in doc i k) _ _ mistyped
     (λ n. node_grows doc (eval doc d) (eval doc (suc d)) (eval_grows doc d) d i k n.class n.kind q)
 
 pub eval_grows_to : (doc : Doc) (d e : ℕ) → d ≤ e → EvalGrows (eval doc d) (eval doc e)

@@ -1,5 +1,5 @@
 -- Each node gives a result at its depth, and so does evaluation.
-use Rattle.std.proofs.Common.{◌≡◌, ◌<◌, ◌≤◌, ℕ, zero, suc, ◌+◌, Bool, true, false, List, [], ◌∷◌, length, get_or, map, slice_get, Option, Some, None, option_and_then, refl, sym, ap, subst, ◌∙◌, arith}
+use Rattle.std.proofs.Common.{◌≡◌, ◌<◌, ◌≤◌, ℕ, zero, suc, ◌+◌, Bool, true, false, List, [], ◌∷◌, length, get_or, map, slice_get, Option, Some, None, option_and_then, if◌then◌else◌, refl, sym, ap, subst, ◌∙◌, arith}
 use Rattle.std.specs.List.{enumerate_from}
 use Rattle.std.specs.Option.{option_map_or}
 use Rattle.std.proofs.lemmas.Option.{none-some, same_Some, slice_get-get_or}
@@ -17,6 +17,7 @@ use Rattle.dg_decl.specs.declared.graph.NodeKind.{NodeKind}
 use Rattle.dg_decl.specs.declared.graph.NodeKind.TheVariants as node
 use Rattle.dg_decl.specs.declared.item.Item.{Item}
 use Rattle.dg_decl.specs.declared.item.Item.TheVariants as item
+use Rattle.dg_decl.specs.Components.{is_number}
 use Rattle.dg_decl.specs.Names.{item_at}
 use Rattle.dg_decl.specs.Lookup.{contributions}
 use Rattle.dg_decl.specs.Graph.{deps, node_of, nodes}
@@ -33,9 +34,10 @@ use Rattle.dg_value.specs.declared.value.Value.TheVariants as value
 use Rattle.dg_value.specs.Places.{then_step}
 use Rattle.dg_value.specs.Same.{Layer}
 use Rattle.dg_eval.specs.Runs.{Asked, cell, Run, gives, and_then, all}
+use Rattle.dg_eval.specs.World.{class_of_inst}
 use Rattle.dg_eval.specs.Operations.{or_mistyped, only_of, elements_at, elements_in, kept_in, value_if}
 use Rattle.dg_eval.specs.Bodies.{End, value_end, producer_end, Around, tree_part}
-use Rattle.dg_eval.specs.Meaning.{node_at, cell_place, Eval, content, look, Target, target_of, given, param_in, around, body_of, end_with, object_of, of_end, member_end, outcomes_in, added_by, added_by_all, set_of_added, pairs, multi_of, optional_of, binding_at, eval_node, eval}
+use Rattle.dg_eval.specs.Meaning.{node_at, node_in, cell_place, Eval, content, look, Target, target_of, given, param_in, around, body_of, end_with, object_of, of_end, member_end, outcomes_in, added_by, added_by_all, set_of_added, pairs, multi_of, optional_of, binding_at, eval_node, eval}
 use Rattle.dg_slots.specs.Plans.{gives_elements}
 use Rattle.dg_eval.specs.At.{calls_of}
 use Rattle.dg_eval.proofs.RunResults.{Gives, Each, each_append, then_gives, asking_gives, or_gives, Along}
@@ -325,13 +327,28 @@ node_has doc N L pl ok d f has k i s class (node.EntryOf e) q le is sh at =
     (along_good doc L k i (node_of class (node.EntryOf e)) 0
     (deps doc (node_of class (node.EntryOf e))) vs all))
 
+in_class : (o : Option ℕ) (x : Option Node) (n : Node)
+    → option_and_then (λ m. if is_number m.class o then Some m else None) x ≡ Some n → x ≡ Some n
+in_class o None n e = cc
+in_class o (Some m) n e = by_test (is_number m.class o) e
+  where
+    by_test : (b : Bool) → (if b then Some m else None) ≡ Some n → Some m ≡ Some n
+    by_test true e = e
+    by_test false e = cc
+
+-- a node that is evaluated in an instance of its class is the node of its number
+pub node_in_class : (doc : Doc) (i k : ℕ) (n : Node) → node_in doc i k ≡ Some n
+    → node_at doc k ≡ Some n
+node_in_class doc i k n e = in_class (class_of_inst doc i) (node_at doc k) n e
+
 -- a slot from which no walk has more nodes than the depth has a result
 pub eval_has : (doc : Doc) (N L : Spot) → Placing doc N L → CallsAreEdges doc → (d : ℕ)
     → HasAll doc N L d (eval doc d)
 unfolding eval
 eval_has doc N L pl ok zero k i s q le sh at = absurd (omega arith)
 eval_has doc N L pl ok (suc d) k i s q le sh at =
-    option_gives (Good doc L k) (node_at doc s) _
-    (λ n is. (let same : sh.0 ≡ n = same_Some sh.0 n (sym sh.1 ∙ is) in
+    option_gives (Good doc L k) (node_in doc i s) _
+    (λ n found. (let is : node_at doc s ≡ Some n = node_in_class doc i s n found in
+    let same : sh.0 ≡ n = same_Some sh.0 n (sym sh.1 ∙ is) in
     node_has doc N L pl ok d (eval doc d) (eval_has doc N L pl ok d) k i s n.class n.kind q
     (omega arith) is (subst (Shallow doc (suc k)) same sh.2) at))

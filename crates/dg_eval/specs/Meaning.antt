@@ -22,6 +22,7 @@ use Rattle.dg_decl.specs.declared.item.Item.{Item}
 use Rattle.dg_decl.specs.declared.item.Item.TheVariants as item
 use Rattle.dg_decl.specs.declared.item.Mark.{Mark}
 use Rattle.dg_decl.specs.declared.item.Mark.TheVariants as mark
+use Rattle.dg_decl.specs.Components.{is_number}
 use Rattle.dg_decl.specs.Names.{item_at, params_of}
 use Rattle.dg_decl.specs.Lookup.{contributions}
 use Rattle.dg_decl.specs.Graph.{Dependency, deps, target, nodes, number_of, inner_of}
@@ -42,7 +43,7 @@ use Rattle.dg_value.specs.declared.value.Value.TheVariants as value
 use Rattle.dg_value.specs.Places.{at_root, then_step}
 use Rattle.dg_value.specs.Same.{Layer}
 use Rattle.dg_eval.specs.Runs.{Asked, cell, lazy, Run, gives, and_then, asking, all, outcome_of, mistyped}
-use Rattle.dg_eval.specs.World.{up, link, bound_value}
+use Rattle.dg_eval.specs.World.{class_of_inst, up, link, bound_value}
 use Rattle.dg_eval.specs.Operations.{or_mistyped, only_of, elements_in, kept_in, value_if}
 use Rattle.dg_eval.specs.Bodies.{End, value_end, producer_end, Around, set_of, tree_part}
 
@@ -51,6 +52,13 @@ use Rattle.dg_eval.specs.Bodies.{End, value_end, producer_end, Around, set_of, t
 -- the node of this number; a slot is a node by its number
 abbrev pub node_at : Doc → ℕ → Option Node
 node_at doc k = slice_get (nodes doc) k
+
+-- the node of this number, where it is evaluated in an instance of its class
+abbrev pub node_in : Doc → ℕ → ℕ → Option Node
+node_in doc i k = option_and_then (in_class (class_of_inst doc i)) (node_at doc k)
+  where
+    in_class : Option ℕ → Node → Option Node
+    in_class class n = if is_number n.class class then Some n else None
 
 -- a node is a cell in each instance of its class: it is scoped, or a `produces` line
 abbrev pub is_cell_node : Doc → Node → Bool
@@ -316,7 +324,7 @@ eval_node doc below depth i k n q = of_kind n.kind
 unfoldable pub eval : Doc → ℕ → Eval
 eval doc zero i k q = None
 eval doc (suc depth) i k q =
-    option_map_or (λ n. eval_node doc (eval doc depth) depth i k n q) (node_at doc k) mistyped
+    option_map_or (λ n. eval_node doc (eval doc depth) depth i k n q) (node_in doc i k) mistyped
 
 -- a depth that is enough in an accepted document
 abbrev pub enough : ℕ
