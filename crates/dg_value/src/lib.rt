@@ -2,7 +2,9 @@
 #![tactic(auto)]
 
 mod place;
+mod shared;
 mod value;
 
 pub use place::{Place, PlaceRoot, PlaceStep, Steps};
+pub use shared::Shared;
 pub use value::{Failure, Kept, Reply, Value};
