@@ -2,5 +2,7 @@
 #![tactic(auto)]
 
 mod laws;
+mod world;
 
 pub use laws::{evaluation_is_total, more_depth_changes_nothing};
+pub use world::World;
