@@ -1,19 +1,21 @@
 use crate::place::Place;
+use crate::shared::Shared;
 use dg_types::{MapKeyVal, Text};
-use sqlite_items::{Boxed, Items};
+use sqlite_items::Items;
 
-/// What an expression gives.
+/// What an expression gives. Values share their parts, so that a copy takes the time of its place
+/// alone.
 #[cycle(value)]
 #[derive(Drop)]
 pub enum Value {
-    Text(Text),
+    Text(Shared<Text>),
     Int(i64),
     /// An object of the class of this number, made at this place, with its fields in declared
     /// order. The place is its identity.
     Object {
         class: u32,
         ident: Place,
-        fields: Items<Value>,
+        fields: Shared<Items<Value>>,
     },
     /// The content of a cell, which isn't looked at yet.
     Held {
@@ -21,9 +23,9 @@ pub enum Value {
         slot: u32,
     },
     /// The elements in order, no two of them equal; the entries of a `Set<Produced<B>>` may be.
-    Set(Items<Value>),
+    Set(Shared<Items<Value>>),
     /// The entries in order.
-    Map(Items<(MapKeyVal, Value)>),
+    Map(Shared<Items<(MapKeyVal, Value)>>),
     /// `Provider` or `Producer` of what this slot gives in this instance.
     Provider {
         inst: u32,
@@ -41,9 +43,9 @@ pub enum Value {
         place: Place,
     },
     /// An optional, absent or present.
-    Opt(Option<Boxed<Value>>),
+    Opt(Option<Shared<Value>>),
     /// What became of a production: a value or a failure.
-    Outcome(Boxed<Kept>),
+    Outcome(Shared<Kept>),
 }
 
 /// What an evaluation comes to, and what a cell keeps.
@@ -59,7 +61,7 @@ pub enum Kept {
 pub struct Failure {
     /// The number of the slot whose body failed.
     pub origin: u32,
-    pub message: Text,
+    pub message: Shared<Text>,
 }
 
 /// What an ask comes to.

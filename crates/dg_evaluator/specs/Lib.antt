@@ -1,0 +1,3 @@
+pub mod Scopes
+pub mod Results
+pub mod Ends
