@@ -2,6 +2,7 @@
 #![tactic(auto)]
 
 mod cells;
+mod context;
 mod outcome;
 mod stop;
 
