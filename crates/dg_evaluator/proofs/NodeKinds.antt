@@ -11,6 +11,7 @@ use Rattle.dg_decl.specs.declared.binding.BindKind.{BindKind}
 use Rattle.dg_decl.specs.declared.binding.BindKind.TheVariants as kind
 use Rattle.dg_decl.specs.declared.binding.BindRef.{BindRef}
 use Rattle.dg_decl.specs.declared.binding.BindRef.TheVariants as binding
+use Rattle.dg_decl.specs.declared.component.Exposed.{Exposed}
 use Rattle.dg_decl.specs.declared.graph.Node.{Node}
 use Rattle.dg_decl.specs.declared.graph.NodeKind.{NodeKind}
 use Rattle.dg_decl.specs.declared.graph.NodeKind.TheVariants as node
@@ -73,71 +74,73 @@ IsInjected (item.Class true scope n params interfaces) = Unit {0}
 IsInjected other = ⊥
 
 -- behind a member of a module stands a `provides`, `binds` or `produces` line, and behind a class
--- one with `@Inject` and a number
-abbrev pub BindingFits : Doc → BindRef → Type 0
-BindingFits doc (binding.Member m) = (x : Item) × (item_at doc m ≡ Some x) × IsMember x
-BindingFits doc (binding.ClassItem c) =
+-- one with `@Inject` and a number; an exposed entry is one that the class sees
+abbrev pub BindingFits : Doc → ℕ → BindRef → Type 0
+BindingFits doc class (binding.Member m) = (x : Item) × (item_at doc m ≡ Some x) × IsMember x
+BindingFits doc class (binding.ClassItem c) =
     (x : Item) × (item_at doc c ≡ Some x) × IsInjected x
-    × ((class : ℕ) × (number_of_class_item doc c ≡ Some class))
-BindingFits doc other = Unit {0}
+    × ((number : ℕ) × (number_of_class_item doc c ≡ Some number))
+BindingFits doc class (binding.Exposed dep entry) =
+    (x : Exposed) × Contains (exposed_of doc class) x × (x.dep ≡ dep) × (x.entry ≡ entry)
+BindingFits doc class other = Unit {0}
 
-abbrev pub KindFits : Doc → NodeKind → Type 0
-KindFits doc (node.Bound b) = BindingFits doc b
-KindFits doc other = Unit {0}
+abbrev pub KindFits : Doc → ℕ → NodeKind → Type 0
+KindFits doc class (node.Bound b) = BindingFits doc class b
+KindFits doc class other = Unit {0}
 
 abbrev stood_as : ℕ → ℕ → Option ℕ → Item → Statement
 stood_as i l block x = record { index = i; line = l; block = block; item = x }
 
-own_fits : (doc : Doc) (i l : ℕ) (block : Option ℕ) (x : Item) (b : BindRef)
+own_fits : (doc : Doc) (class i l : ℕ) (block : Option ℕ) (x : Item) (b : BindRef)
     → Contains (statements doc) (stood_as i l block x)
-    → Contains (own_binding (stood_as i l block x)) b → BindingFits doc b
-own_fits doc i l block (item.Provides mark scope n params result body) b c h =
-    subst (BindingFits doc) (the_one b (binding.Member i) h)
+    → Contains (own_binding (stood_as i l block x)) b → BindingFits doc class b
+own_fits doc class i l block (item.Provides mark scope n params result body) b c h =
+    subst (BindingFits doc class) (the_one b (binding.Member i) h)
     (_, item_of_statement doc (stood_as i l block (item.Provides mark scope n params result body)) c, tt)
-own_fits doc i l block (item.Binds mark scope n param result) b c h =
-    subst (BindingFits doc) (the_one b (binding.Member i) h)
+own_fits doc class i l block (item.Binds mark scope n param result) b c h =
+    subst (BindingFits doc class) (the_one b (binding.Member i) h)
     (_, item_of_statement doc (stood_as i l block (item.Binds mark scope n param result)) c, tt)
-own_fits doc i l block (item.Produces mark n params result body) b c h =
-    subst (BindingFits doc) (the_one b (binding.Member i) h)
+own_fits doc class i l block (item.Produces mark n params result body) b c h =
+    subst (BindingFits doc class) (the_one b (binding.Member i) h)
     (_, item_of_statement doc (stood_as i l block (item.Produces mark n params result body)) c, tt)
-own_fits doc i l block (item.Class true scope n params interfaces) b c h =
-    subst (BindingFits doc) (the_one b (binding.ClassItem i) h) (
+own_fits doc class i l block (item.Class true scope n params interfaces) b c h =
+    subst (BindingFits doc class) (the_one b (binding.ClassItem i) h) (
       _,
       item_of_statement doc (stood_as i l block (item.Class true scope n params interfaces)) c,
       tt,
       class_has_number doc (stood_as i l block (item.Class true scope n params interfaces)) c refl,
     )
-own_fits doc i l block other b c h = absurd (none_in b h)
+own_fits doc class i l block other b c h = absurd (none_in b h)
 
 argument_fits : (doc : Doc) (class : ℕ) (s : Statement) (b : BindRef)
-    → Contains (own_argument doc class s) b → BindingFits doc b
+    → Contains (own_argument doc class s) b → BindingFits doc class b
 argument_fits doc class s b h =
-    let o = out_map binding.Arg _ b h in subst (BindingFits doc) o.2 tt
+    let o = out_map binding.Arg _ b h in subst (BindingFits doc class) o.2 tt
 
 exposed_fits : (doc : Doc) (class : ℕ) (s : Statement) (b : BindRef)
-    → Contains (own_exposed doc class s) b → BindingFits doc b
+    → Contains (own_exposed doc class s) b → BindingFits doc class b
 exposed_fits doc class s b h =
     let w = out_if (is_header_of doc class s) _ b h in
     let o = out_map (λ x. binding.Exposed x.dep x.entry) (exposed_of doc class) b w.1 in
-    subst (BindingFits doc) o.2 tt
+    subst (BindingFits doc class) o.2 (o.0, o.1, refl, refl)
 
 statement_fits : (doc : Doc) (class : ℕ) (s : Statement) (b : BindRef)
     → Contains (statements doc) s
     → Contains (own_binding s ++ (own_argument doc class s ++ own_exposed doc class s)) b
-    → BindingFits doc b
+    → BindingFits doc class b
 statement_fits doc class s b c h =
     elim (Contains-append_cases (own_binding s) _ b h) [
-      | inl own ↦ own_fits doc s.index s.line s.block s.item b c own
+      | inl own ↦ own_fits doc class s.index s.line s.block s.item b c own
       | inr more ↦ elim (Contains-append_cases (own_argument doc class s) _ b more) [
         | inl argument ↦ argument_fits doc class s b argument
         | inr exposed ↦ exposed_fits doc class s b exposed
       ]
     ]
 
-default_fits : (doc : Doc) (b : BindRef)
-    → Contains (node.Bound binding.Default ∷ []) (node.Bound b) → BindingFits doc b
-default_fits doc b c =
-    subst (KindFits doc) (the_one (node.Bound b) (node.Bound binding.Default) c) tt
+default_fits : (doc : Doc) (class : ℕ) (b : BindRef)
+    → Contains (node.Bound binding.Default ∷ []) (node.Bound b) → BindingFits doc class b
+default_fits doc class b c =
+    subst (KindFits doc class) (the_one (node.Bound b) (node.Bound binding.Default) c) tt
 
 abbrev is_bound : NodeKind → Bool
 is_bound (node.Bound b) = true
@@ -169,26 +172,26 @@ other_kinds doc class s c h =
     ]
 
 kind_fits : (doc : Doc) (class : ℕ) (k : NodeKind) → Contains (kinds_of doc class) k
-    → KindFits doc k
+    → KindFits doc class k
 kind_fits doc class (node.Bound b) h =
     elim (Contains-append_cases (default_kind doc class) _ (node.Bound b) h) [
-      | inl first ↦ default_fits doc b (out_if _ (node.Bound binding.Default ∷ []) (node.Bound b)
+      | inl first ↦ default_fits doc class b (out_if _ (node.Bound binding.Default ∷ []) (node.Bound b)
           first).1
       | inr later ↦ (let s = out_flat_map (kinds_at doc class) (statements doc) (node.Bound b) later in
           elim (Contains-append_cases (map node.Bound (own_binding s.0 ++ (own_argument doc class s.0
           ++ own_exposed doc class s.0))) _ (node.Bound b) s.2) [
             | inl bound ↦ (let o = out_map node.Bound _ (node.Bound b) bound in
-                subst (KindFits doc) o.2 (statement_fits doc class s.0 o.0 s.1 o.1))
+                subst (KindFits doc class) o.2 (statement_fits doc class s.0 o.0 s.1 o.1))
             | inr other ↦ absurd (other_kinds doc class s.0 b other)
           ])
     ]
 kind_fits doc class other h = tt
 
-pub node_fits : (doc : Doc) (n : Node) → Contains (nodes doc) n → KindFits doc n.kind
+pub node_fits : (doc : Doc) (n : Node) → Contains (nodes doc) n → KindFits doc n.class n.kind
 unfolding candidates
 node_fits doc n c =
     let class = out_flat_map (λ a. map (node_of a) (kinds_of doc a)) (range_with_len 0
     (class_count doc)) n (node_is_candidate doc n c) in
     let o = out_map (node_of class.0) (kinds_of doc class.0) n class.2 in
-    let P : Node → Type 0 = λ m. KindFits doc m.kind in
+    let P : Node → Type 0 = λ m. KindFits doc m.class m.kind in
     subst P o.2 (kind_fits doc class.0 o.0 o.1)

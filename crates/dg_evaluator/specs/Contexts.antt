@@ -1,11 +1,22 @@
 -- What the plan and the world of a document are, and what is looked up in them.
-use Rattle.std.specs.Prelude.{◌≡◌, ℕ, Bool, true, false, if◌then◌else◌, List, Option, Some, None, option_and_then, slice_get}
+use Rattle.std.specs.Prelude.{◌≡◌, ◌≢◌, ◌<◌, ℕ, ◌==◌, Bool, true, false, not, ◌||◌, if◌then◌else◌, List, Option, Some, None, option_and_then, slice_get}
 use Rattle.std.specs.Option.{option_map_or}
 use Rattle.dg_decl.specs.declared.document.Doc.{Doc}
+use Rattle.dg_num.specs.Walks.{Walk}
 use Rattle.dg_decl.specs.declared.graph.Node.{Node}
+use Rattle.dg_decl.specs.declared.graph.NodeKind.{NodeKind}
+use Rattle.dg_decl.specs.declared.graph.NodeKind.TheVariants as node
 use Rattle.dg_decl.specs.Diagnostics.{IsAccepted}
-use Rattle.dg_decl.specs.Graph.{Dependency, deps}
+use Rattle.dg_decl.specs.Graph.{Dependency, deps, needed_targets}
+use Rattle.dg_decl.specs.Sizes.{is_production}
 use Rattle.dg_decl.specs.Components.{is_number}
+use Rattle.dg_slots.specs.declared.body.NExpr.{NExpr, out-NExpr}
+use Rattle.dg_slots.specs.declared.body.NCond.{NCond}
+use Rattle.dg_slots.specs.declared.body.NCond.TheOpen.{NExpr-F}
+use Rattle.dg_slots.specs.declared.body.NTree.{NTree, out-NTree}
+use Rattle.dg_slots.specs.declared.body.NTree.TheOpen.{NTree-F}
+use Rattle.dg_slots.specs.declared.plan.Body.{Body}
+use Rattle.dg_slots.specs.declared.plan.Body.TheVariants as body
 use Rattle.dg_slots.specs.declared.plan.CellKind.{CellKind}
 use Rattle.dg_slots.specs.declared.plan.CellKind.TheVariants as cell
 use Rattle.dg_slots.specs.declared.plan.Input.{Input}
@@ -14,8 +25,9 @@ use Rattle.dg_slots.specs.declared.plan.Slot.{Slot}
 use Rattle.dg_slots.specs.Plans.{inputs_of, plan_of}
 use Rattle.dg_value.specs.declared.value.Value.{Value}
 use Rattle.dg_eval.specs.declared.world.World.{World}
+use Rattle.dg_eval.specs.Runs.{gives}
 use Rattle.dg_eval.specs.World.{world_of}
-use Rattle.dg_eval.specs.Meaning.{Target as Look, node_in}
+use Rattle.dg_eval.specs.Meaning.{Target as Look, node_in, is_instance, producer_from}
 use Rattle.dg_evaluator.specs.declared.context.Target.{Target}
 
 -- a plan and a world are those of an accepted document
@@ -65,3 +77,52 @@ parent_at parents i = option_and_then (λ p. p) (slice_get parents i)
 abbrev pub counted_at : List (List ℕ) → ℕ → Option ℕ → Option ℕ
 counted_at tied i dep =
     option_map_or (λ m. option_and_then (λ insts. slice_get insts m) (slice_get tied i)) dep (Some i)
+
+-- ---- what slots pass on
+
+abbrev pub is_producing : CellKind → Bool
+is_producing cell.Producing = true
+is_producing other = false
+
+abbrev pub is_first_param_at : NExpr-F NCond NExpr → Bool
+is_first_param_at (NExpr-F.Param p) = p == 0
+is_first_param_at other = false
+
+abbrev pub gives_first_param_at : NTree-F NTree → Bool
+gives_first_param_at (NTree-F.Leaf e) = is_first_param_at (out-NExpr e)
+gives_first_param_at other = false
+
+-- a body gives its first parameter
+abbrev pub gives_first_param : Body → Bool
+gives_first_param (body.Run t) = gives_first_param_at (out-NTree t)
+gives_first_param other = false
+
+abbrev pub as_instance : Input → Option Input
+as_instance x = if is_instance x.mode then Some x else None
+
+-- the input that a slot passes on: its first, where the slot isn't kept and gives that alone, as an
+-- instance
+abbrev pub passed_by : Slot → Option Input
+passed_by s =
+    if is_kept s.cell || not (gives_first_param s.body) then None
+    else option_and_then as_instance (slice_get s.inputs 0)
+
+abbrev pub IsBound : NodeKind → Type 0
+IsBound (node.Bound b) = Unit {0}
+IsBound other = ⊥
+
+-- no walk from a node has more than so many nodes
+abbrev pub WalksAreShort : Doc → ℕ → Node → Type 0
+WalksAreShort doc most n =
+    (edges : ℕ) (last : Node) → Walk (needed_targets doc) edges n last → edges < most
+
+-- the producer to which the chain of a slot leads
+abbrev pub IsProducerOf : Doc → ℕ → ℕ → Target → Type 0
+IsProducerOf doc i k t =
+    (times : ℕ) → producer_from doc times i k ≢ None
+    → producer_from doc times i k ≡ gives (as_look t)
+
+-- the producer behind a node, where it is a production, and else none
+pub record IsBehind (doc : Doc) (i k : ℕ) (n : Node) (o : Option Target) : Type 0 where
+  pub none : is_production doc n ≡ false → o ≡ None
+  pub some : is_production doc n ≡ true → (t : Target) × (o ≡ Some t) × IsProducerOf doc i k t
