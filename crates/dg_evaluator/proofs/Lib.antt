@@ -5,3 +5,4 @@ pub mod BodyOfSlot
 pub mod BodyOfMulti
 pub mod Productions
 pub mod Passing
+pub mod Behind

@@ -1,20 +1,22 @@
 //! What is looked up by number, in the plan of a document and its world.
 
-ghost use Rattle.std.specs.Prelude.{◌≡◌, ◌<◌, ℕ, Option, Some, IsSome, option_map, option_and_then, slice_get};
+ghost use Rattle.std.specs.Prelude.{◌≡◌, ◌<◌, ℕ, true, Option, Some, IsSome, option_map, option_and_then, slice_get};
 ghost use Rattle.std.specs.Option.{option_copied, option_map_or};
 ghost use Rattle.dg_decl.specs.declared.document.Doc.{Doc};
 ghost use Rattle.dg_decl.specs.declared.graph.Node.{Node};
 ghost use Rattle.dg_decl.specs.Components.{walk};
 ghost use Rattle.dg_decl.specs.Graph.{Dependency};
+ghost use Rattle.dg_decl.specs.Sizes.{is_production};
 ghost use Rattle.dg_slots.specs.declared.plan.Plan.{Plan as plan_type};
 ghost use Rattle.dg_slots.specs.Plans.{slot_of};
 ghost use Rattle.dg_eval.specs.declared.world.World.{World as world_type};
 ghost use Rattle.dg_eval.specs.World as spec;
 ghost use Rattle.dg_eval.specs.Meaning as meaning;
-ghost use Rattle.dg_evaluator.specs.Contexts.{IsContextOf, IsInputFor, as_look, slot_there, is_kept_at, value_at, counted_at, parent_at};
+ghost use Rattle.dg_evaluator.specs.Contexts.{IsContextOf, IsInputFor, as_look, slot_there, is_kept_at, value_at, counted_at, parent_at, is_producing, gives_first_param, as_instance, passed_by, IsBound, WalksAreShort, IsBehind};
 
 use dg_eval::World;
-use dg_slots::{CellKind, Input, Plan, Slot};
+use dg_slots::{Body, CellKind, Input, NExpr, NTree, Plan, Slot};
+use dg_types::Mode;
 use dg_value::Value;
 
 /// A slot in an instance, by their numbers.
@@ -151,4 +153,78 @@ pub fn target_at(world: &World, inst: u32, input: &Input) -> Option<Target>
         },
         None => None,
     }
+}
+
+/// Whether a slot is a producer.
+fn is_producer(slot: &Slot) -> bool
+    ensures exact { result ≡ is_producing slot.now.cell }
+{
+    matches!(slot.cell, CellKind::Producing)
+}
+
+/// Whether a body gives its first parameter.
+fn gives_parameter(body: &Body) -> bool
+    ensures exact { result ≡ gives_first_param body.now }
+{
+    match body {
+        Body::Run(NTree::Leaf(NExpr::Param(param))) => *param == 0,
+        _ => false,
+    }
+}
+
+/// The first input of a slot, where it asks for an instance.
+fn first_instance(slot: &Slot) -> Option<&Input>
+    ensures exact { option_copied result
+        ≡ option_and_then as_instance (slice_get slot.now.inputs 0) }
+{
+    match slot.inputs.get(0) {
+        Some(input) => match input.mode {
+            Mode::Instance => Some(input),
+            _ => None,
+        },
+        None => None,
+    }
+}
+
+/// The input that a slot passes on: its first, where it gives that alone.
+fn passed_input(slot: &Slot) -> Option<&Input>
+    ensures exact { option_copied result ≡ passed_by slot.now }
+{
+    if matches!(slot.cell, CellKind::Plain) && gives_parameter(&slot.body) {
+        first_instance(slot)
+    } else {
+        None
+    }
+}
+
+/// The producer behind a slot from which no walk has more than so many nodes.
+fn producer_within(plan: &Plan, world: &World, at: Target, steps: u32) -> Option<Target>
+    ensures exact { (doc : Doc) → IsContextOf doc plan.now world.now → (n : Node)
+        → meaning.node_in doc at.inst at.slot ≡ Some n → WalksAreShort doc steps n
+        → (is_production doc n ≡ true → IsBound n.kind) → IsBehind doc at.inst at.slot n result }
+{
+    let Some(slot) = slot_in(plan, world, at.inst, at.slot) else {
+        return None;
+    };
+    if is_producer(slot) {
+        return Some(at);
+    }
+    if steps == 0 {
+        return None;
+    }
+    let Some(input) = passed_input(slot) else {
+        return None;
+    };
+    let Some(next) = target_at(world, at.inst, input) else {
+        return None;
+    };
+    producer_within(plan, world, next, steps - 1)
+}
+
+/// The producer to which an `await` of a slot leads, where the slot is a production: none else.
+pub fn producer_behind(plan: &Plan, world: &World, inst: u32, slot: u32) -> Option<Target>
+    ensures exact { (doc : Doc) → IsContextOf doc plan.now world.now → (n : Node)
+        → meaning.node_in doc inst slot ≡ Some n → IsBound n.kind → IsBehind doc inst slot n result }
+{
+    producer_within(plan, world, Target { inst, slot }, 128)
 }
