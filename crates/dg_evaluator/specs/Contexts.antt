@@ -76,7 +76,8 @@ parent_at parents i = option_and_then (λ p. p) (slice_get parents i)
 -- the instance from which the levels of an input are counted
 abbrev pub counted_at : List (List ℕ) → ℕ → Option ℕ → Option ℕ
 counted_at tied i dep =
-    option_map_or (λ m. option_and_then (λ insts. slice_get insts m) (slice_get tied i)) dep (Some i)
+    option_map_or (λ m. option_and_then (λ insts. slice_get insts m) (slice_get tied i)) dep
+    (Some i)
 
 -- ---- what slots pass on
 

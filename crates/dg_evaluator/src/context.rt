@@ -224,7 +224,8 @@ fn producer_within(plan: &Plan, world: &World, at: Target, steps: u32) -> Option
 /// The producer to which an `await` of a slot leads, where the slot is a production: none else.
 pub fn producer_behind(plan: &Plan, world: &World, inst: u32, slot: u32) -> Option<Target>
     ensures exact { (doc : Doc) → IsContextOf doc plan.now world.now → (n : Node)
-        → meaning.node_in doc inst slot ≡ Some n → IsBound n.kind → IsBehind doc inst slot n result }
+        → meaning.node_in doc inst slot ≡ Some n → IsBound n.kind
+        → IsBehind doc inst slot n result }
 {
     producer_within(plan, world, Target { inst, slot }, 128)
 }
