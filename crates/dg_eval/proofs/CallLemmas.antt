@@ -89,7 +89,7 @@ way_mode u r e way =
 
 -- ---- each parameter asks for something
 
-abbrev HasRequest : Param → Type 0
+abbrev pub HasRequest : Param → Type 0
 HasRequest p = (r : Request) × (request_of p.shape ≡ Some r)
 
 some_of : {A : Type 0} (o : Option A) → is_some o ≡ true → (x : A) × (o ≡ Some x)
@@ -112,7 +112,7 @@ plain_asked : (s : Shape) (a : Asked) → plain_of s ≡ Some a → asked_of s �
 unfolding asked_of
 plain_asked s a e = ap (λ (o : Option Asked). first_of_two o (producing_of s)) e
 
-plain_asks : (u : TypeUse) → is_plain_use u ≡ true → (r : Request) × (request_of u ≡ Some r)
+pub plain_asks : (u : TypeUse) → is_plain_use u ≡ true → (r : Request) × (request_of u ≡ Some r)
 unfolding is_plain_use
 plain_asks u e =
     let o = some_of (plain_of u.shape) e in
@@ -124,7 +124,7 @@ kept_nil true x xs e = (refl, e)
 kept_nil {A} false x xs e = absurd (let P : List A → Type 0 = λ zs. Contains zs x in
     none_in x (subst P e (0, omega arith, refl)))
 
-params_ask : (test : TypeUse → Bool)
+pub params_ask : (test : TypeUse → Bool)
     → ((u : TypeUse) → test u ≡ true → (r : Request) × (request_of u ≡ Some r))
     → (ps : List Param) (rest : List Placed)
     → filter (λ p. not p.allowed) (each_placed test ps ++ rest) ≡ [] → Each HasRequest ps
@@ -140,13 +140,13 @@ map_nil {A} {B} f (x ∷ xs) e = absurd (let P : List B → Type 0 = λ zs. Cont
 
 -- ---- dependencies of a member, in the order of its parameters
 
-no_request : Request
+pub no_request : Request
 no_request = record {
   mode = mode.Instance;
   key = record { qualifier = None; core = core.One base.Text };
 }
 
-abbrev asked_for : Doc → ℕ → Param → Dependency
+abbrev pub asked_for : Doc → ℕ → Param → Dependency
 asked_for doc class p =
     asked doc class (Some p.name) (unwrap_or (request_of p.shape) no_request)
 
@@ -155,7 +155,7 @@ given_first : {A : Type 0} (o : Option A) (x : A) (xs ys : List A) → o ≡ Som
 given_first None x xs ys e f = absurd (none-some x e)
 given_first (Some y) x xs ys e f = λ i. same_Some y x e i ∷ f i
 
-all_asked : (doc : Doc) (class : ℕ) (ps : List Param) → Each HasRequest ps
+pub all_asked : (doc : Doc) (class : ℕ) (ps : List Param) → Each HasRequest ps
     → filter_map (of_param doc class) ps ≡ map (asked_for doc class) ps
 all_asked doc class [] all = refl
 all_asked doc class (p ∷ ps) all =
@@ -292,9 +292,9 @@ called_place doc class params n p s =
 
 -- ---- what the stage of types says of an item
 
-record ItemFits (doc : Doc) (x : Item) : Type 0 where
-  typed : has_its_type doc x ≡ true
-  allowed : filter (λ p. not p.allowed) (types_of x) ≡ []
+pub record ItemFits (doc : Doc) (x : Item) : Type 0 where
+  pub typed : has_its_type doc x ≡ true
+  pub allowed : filter (λ p. not p.allowed) (types_of x) ≡ []
 
 no_mismatch : (doc : Doc) (s : Statement) → type_mismatch doc s ≡ []
     → has_its_type doc s.item ≡ true
@@ -311,7 +311,7 @@ no_bad_type : (doc : Doc) (s : Statement) → bad_type doc s ≡ []
 unfolding bad_type
 no_bad_type doc s e = map_nil _ (filter (λ p. not p.allowed) (types_of s.item)) e
 
-item_fits : (doc : Doc) → StagesFindNothing doc → (m : ℕ) (x : Item) → item_at doc m ≡ Some x
+pub item_fits : (doc : Doc) → StagesFindNothing doc → (m : ℕ) (x : Item) → item_at doc m ≡ Some x
     → ItemFits doc x
 unfolding types_stage
 item_fits doc none m x e =

@@ -214,7 +214,7 @@ input_is : (doc : Doc) (n : Node) (d : Dependency) (t : Node) (k : ℕ) → targ
     → number_of (nodes doc) t ≡ Some k → input_of doc n d ≡ Some (input_to doc n d t k)
 input_is doc n d t k is number = then_is _ (target d) t _ is (ap (option_map _) number)
 
-each_given : (doc : Doc) → bindings_stage doc ≡ [] → (n : Node) → Contains (nodes doc) n
+pub each_given : (doc : Doc) → bindings_stage doc ≡ [] → (n : Node) → Contains (nodes doc) n
     → EachGiven (input_of doc n) (deps doc n)
 each_given doc none n among d c =
     let f = finds_slot doc none n d among c in

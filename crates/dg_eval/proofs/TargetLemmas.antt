@@ -101,7 +101,7 @@ first_enumerated (x ∷ xs) d e =
     let P : Dependency → Type 0 = λ y. Contains ((0, x) ∷ enumerate_from (0 + 1) xs) (0, y) in
     subst P same (in_front (0, x) (enumerate_from (0 + 1) xs))
 
-instance_direct : (m : Mode) → is_instance m ≡ true → edge_kind m ≡ edge.Direct
+pub instance_direct : (m : Mode) → is_instance m ≡ true → edge_kind m ≡ edge.Direct
 instance_direct mode.Instance e = refl
 instance_direct mode.Produced e = refl
 instance_direct other e = absurd (false≢true e)

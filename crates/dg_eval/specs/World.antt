@@ -1,6 +1,6 @@
 -- The world of a document: its instances, how they stand to one another, and their arguments.
-use Rattle.std.specs.Prelude.{ℕ, suc, ◌+◌, List, [], ◌∷◌, length, Option, Some, option_and_then, option_map, slice_get, pos}
-use Rattle.std.specs.List.{find}
+use Rattle.std.specs.Prelude.{ℕ, suc, ◌+◌, List, [], ◌∷◌, length, map, Option, Some, option_and_then, option_map, slice_get, pos}
+use Rattle.std.specs.List.{find, enumerate_from}
 use Rattle.dg_decl.specs.declared.document.Doc.{Doc}
 use Rattle.dg_decl.specs.Components.{is_number, walk}
 use Rattle.dg_slots.specs.declared.body.NExpr.{NExpr, fold-NExpr}
@@ -14,6 +14,7 @@ use Rattle.dg_value.specs.declared.place.PlaceStep.TheVariants as step
 use Rattle.dg_value.specs.declared.value.Value.{Value}
 use Rattle.dg_value.specs.declared.value.Value.TheVariants as value
 use Rattle.dg_value.specs.Places.{at_root, then_step}
+use Rattle.dg_eval.specs.declared.world.World.{World}
 
 -- the instance of this number
 abbrev pub inst_at : Doc → ℕ → Option Inst
@@ -78,3 +79,20 @@ unfoldable pub bound_value : Doc → ℕ → ℕ → Option Value
 bound_value doc i a =
     option_map (λ e. (constant e).value (at_root (root.Arg i a)) 0)
     (option_and_then (λ x. slice_get x.bound a) (inst_at doc i))
+
+-- ---- the world by number
+
+-- the values of the bound arguments of an instance of this number, in order
+abbrev pub bound_values : ℕ → Inst → List Value
+bound_values i x =
+    map (λ a. (constant a.1).value (at_root (root.Arg i a.0)) 0) (enumerate_from 0 x.bound)
+
+-- the instances of a document: their parents, their classes, the values of their arguments, and the
+-- instances to which they are tied
+unfoldable pub world_of : Doc → World
+world_of doc = record {
+  parent = map (λ x. x.parent) (insts_of doc);
+  class = map (λ x. x.class) (insts_of doc);
+  bound = map (λ p. bound_values p.0 p.1) (enumerate_from 0 (insts_of doc));
+  deps = links_of doc;
+}

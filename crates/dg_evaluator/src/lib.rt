@@ -1,0 +1,11 @@
+//! The evaluator: what a slot or an ask comes to, over contents that others keep.
+#![tactic(auto)]
+
+mod cells;
+mod context;
+mod outcome;
+mod stop;
+
+pub use cells::Cells;
+pub use outcome::Outcome;
+pub use stop::Stop;
