@@ -70,3 +70,5 @@ pub not_held : (content : ContentOf) (left : ℕ) (v : Value) → ((i k : ℕ) �
 unfolding look_through
 not_held content zero v isnt = itself _ v (out-Value v) refl isnt
 not_held content (suc left) v isnt = itself _ v (out-Value v) refl isnt
+
+pub ruleset looks = (held_at_last, ends, not_held)

@@ -66,7 +66,8 @@ step_itself step.Inside = refl
 
 steps_itself : (ss : List PlaceStep) → same_steps ss ss ≡ true
 steps_itself [] = refl
-steps_itself (a ∷ ss) = both_true (same_step a a) (same_steps ss ss) (step_itself a) (steps_itself ss)
+steps_itself (a ∷ ss) =
+    both_true (same_step a a) (same_steps ss ss) (step_itself a) (steps_itself ss)
 
 -- ---- places
 

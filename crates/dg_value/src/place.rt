@@ -100,7 +100,10 @@ impl Place {
         ensures exact { IfOk result (λ place. place ≡ spec.then_step self.now step) }
     {
         let before = &self.steps.steps;
-        let mut steps = SmallVec::with_capacity(*before.allocator(), before.len().saturating_add(1))?;
+        let mut steps = SmallVec::with_capacity(
+            *before.allocator(),
+            before.len().saturating_add(1),
+        )?;
         steps.extend_from_slice(before.as_slice())?;
         steps.push(step)?;
         Ok(Place {

@@ -39,7 +39,8 @@ pub fn same_element(v: &Value, w: &Value) -> bool
 
 /// The value that is kept, where one is.
 fn kept_value(kept: Option<&Kept>) -> Option<&Value>
-    ensures exact { option_copied result ≡ option_and_then behind.kept_value (option_copied kept.entry) }
+    ensures exact { option_copied result
+        ≡ option_and_then behind.kept_value (option_copied kept.entry) }
 {
     match kept {
         Some(Kept::Value(value)) => Some(value),
@@ -58,7 +59,7 @@ fn value_of<C: Contents>(contents: &C, inst: u32, slot: u32) -> Option<&Value>
 /// What stands behind a value: the content of its cell where it is held, and so on through at most
 /// 128 cells. None where the contents of these cells aren't all held, or one is a failure. It takes
 /// no memory.
-#[tactic(auto, using(crate::proofs::LookLemmas::held_at_last, crate::proofs::LookLemmas::ends, crate::proofs::LookLemmas::not_held), unfolding(crate::specs::Contents::look))]
+#[tactic(auto, using(crate::proofs::LookLemmas::looks), unfolding(crate::specs::Contents::look))]
 pub fn look<'a, C: Contents>(contents: &'a C, value: &'a Value) -> Option<&'a Value>
     ensures exact { option_copied result ≡ behind.look (C.content contents.now) value.now }
 {
@@ -90,7 +91,8 @@ fn both_same(v: Option<&Value>, w: Option<&Value>) -> bool
 /// Whether an element is equal to a value, by what stands behind both.
 #[tactic(auto, unfolding(crate::specs::Sets::same_behind))]
 fn has_same<C: Contents>(set: &[Value], value: &Value, contents: &C) -> bool
-    ensures exact { result ≡ list_any (sets.same_behind (C.content contents.now) value.now) set.now }
+    ensures exact { result
+        ≡ list_any (sets.same_behind (C.content contents.now) value.now) set.now }
 {
     let value = look(contents, value);
     for element in set {
@@ -101,10 +103,14 @@ fn has_same<C: Contents>(set: &[Value], value: &Value, contents: &C) -> bool
     false
 }
 
-/// Appends a value unless an element is equal to it, by what stands behind both: it needs to hold
-/// the contents of the cells behind them. For want of memory it hands the value back.
+/// Appends a value unless an element is equal to it, by what stands behind both. Where nothing
+/// stands behind one, it equals none. For want of memory the value is handed back.
 #[tactic(auto, unfolding(crate::specs::Sets::with_element))]
-pub fn add_element<C: Contents>(set: &mut Vec<Value>, value: Value, contents: &C) -> Result<(), Value>
+pub fn add_element<C: Contents>(
+    set: &mut Vec<Value>,
+    value: Value,
+    contents: &C,
+) -> Result<(), Value>
     ensures exact { OnOk result
         (set.new.items ≡ sets.with_element (C.content contents.now) set.old.items value) }
     ensures kept { OnErr result (set.new.items ≡ set.old.items) }

@@ -65,8 +65,8 @@ fn failed(alloc: Global) -> Result<Kept, NoMemory> {
     }))
 }
 
-/// The cell of slot 0 holds 5, that of slot 1 the content of that one, and that of slot 2 a failure.
-/// Entries of other instances, and later ones, say otherwise.
+/// The cell of slot 0 holds 5, that of slot 1 the content of that one, and that of slot 2 a
+/// failure. Entries of other instances, and later ones, say otherwise.
 fn known(alloc: Global) -> Result<Known, NoMemory> {
     let mut cells = Items::new(alloc);
     cells.push((1, 0, Kept::Value(Value::Int(6))))?;
@@ -85,7 +85,10 @@ const ROWS: &[Row] = &[
     (&[Part::Text("a"), Part::Text(""), Part::Text("a")], &[0, 1]),
     (&[Part::Text("5"), Part::Int(5)], &[0, 1]),
     (&[Part::Object(7, 1), Part::Object(7, 2)], &[0, 1]),
-    (&[Part::Object(7, 2), Part::Int(1), Part::Object(7, 2)], &[0, 1]),
+    (
+        &[Part::Object(7, 2), Part::Int(1), Part::Object(7, 2)],
+        &[0, 1],
+    ),
     (&[Part::Held(0), Part::Int(6), Part::Int(5)], &[0, 1]),
     (&[Part::Int(5), Part::Held(0)], &[0]),
     (&[Part::Held(1), Part::Held(0), Part::Int(5)], &[0]),
@@ -139,6 +142,13 @@ fn what_stands_behind_a_value(rt: HostRuntime) -> Result<(), Fail> {
     Ok(())
 }
 
+fn is_failed(kept: &Kept) -> bool {
+    match kept {
+        Kept::Value(_) => false,
+        Kept::Failed(failure) => failure.origin == 3,
+    }
+}
+
 /// A place of ten steps.
 fn long_place(alloc: Global) -> Result<Place, NoMemory> {
     let mut place = Place::at_root(alloc, PlaceRoot::Cell { inst: 1, slot: 2 });
@@ -154,7 +164,7 @@ fn copies_are_equal(rt: HostRuntime) -> Result<(), Fail> {
     assert!(rt; same_element(&value, &value.copy()?));
     assert!(rt; !same_element(&value, &made(rt.alloc(), &Part::Object(7, 1))?));
     let copy = failed(rt.alloc())?.copy()?;
-    assert!(rt; matches!(copy, Kept::Failed(failure) if failure.origin == 3));
+    assert!(rt; is_failed(&copy));
     Ok(())
 }
 

@@ -76,8 +76,8 @@ pub enum Reply {
 }
 
 impl Value {
-    /// An equal value. It shares its parts with this one, so that it takes memory for a place of more
-    /// than eight steps alone.
+    /// An equal value. It shares its parts with this one, so that it takes memory only for a place
+    /// of more than eight steps.
     pub fn copy(&self) -> Result<Value, NoMemory>
         ensures exact { IfOk result (λ copy. copy ≡ self.now) }
     {

@@ -46,15 +46,26 @@ module _ (R S : RattleType) (h : R.Denot → S.Denot) where
   unfolding part_of
   owner_places a = record {
     mir_same = λ i. (owner_of (one_value R (a.mir_same i) (λ _. ftrue) (λ _ _. nothing) gnil)).mir;
-    own_same = λ s i. (owner_of (one_value R (a.mir_same i) (a.own_same s.value i) (a.shr_same s.value i) gnil)).own_val (owning s tt);
-    shr_same = λ s i. (owner_of (one_value R (a.mir_same i) (a.own_same s.value i) (a.shr_same s.value i) gnil)).shr_at (owning s tt);
+    own_same = λ s i.
+        (owner_of
+        (one_value R (a.mir_same i) (a.own_same s.value i) (a.shr_same s.value i) gnil)).own_val
+        (owning s tt);
+    shr_same = λ s i.
+        (owner_of
+        (one_value R (a.mir_same i) (a.own_same s.value i) (a.shr_same s.value i) gnil)).shr_at
+        (owning s tt);
   }
 
-  pub the_places : Alike R S h → Alike (outer.the_row R) (outer.the_row S) ((the_former this).map R.Denot S.Denot h)
-  the_places a = view_places parts this view (λ X Y k u. refl) (λ X u. refl) R.Denot S.Denot h (outer.the_row R).coded (outer.the_row S).coded
-      (invariant R.Denot) (invariant S.Denot) (λ u p q. refl) (λ u p q. refl) (λ u e. tt) (λ u e. tt)
-      (over (inner.the_row R)) (over (inner.the_row S))
-      (struct_places (inner.the_type R) (inner.the_type S) ((λ s. owning s (h s.value)), tt) _ (λ d. refl) refl (laid _ _ _ (owner_places a), tt))
+  pub the_places : Alike R S h
+      → Alike (outer.the_row R) (outer.the_row S) ((the_former this).map R.Denot S.Denot h)
+  the_places a =
+      view_places parts this view (λ X Y k u. refl) (λ X u. refl) R.Denot S.Denot h
+      (outer.the_row R).coded (outer.the_row S).coded (invariant R.Denot) (invariant S.Denot)
+      (λ u p q. refl) (λ u p q. refl) (λ u e. tt) (λ u e. tt) (over (inner.the_row R))
+      (over (inner.the_row S))
+      (struct_places (inner.the_type R) (inner.the_type S) ((λ s. owning s (h s.value)), tt) _
+      (λ d. refl) refl (laid _ _ _ (owner_places a), tt))
 
-  pub the_codes_placed : Recodes R S h → Recodes (outer.the_row R) (outer.the_row S) ((the_former this).map R.Denot S.Denot h)
+  pub the_codes_placed : Recodes R S h
+      → Recodes (outer.the_row R) (outer.the_row S) ((the_former this).map R.Denot S.Denot h)
   the_codes_placed e d = e d
