@@ -2,7 +2,10 @@
 #![tactic(auto)]
 
 mod cells;
+mod copies;
+mod operations;
 mod outcome;
+mod parts;
 mod stop;
 
 pub use cells::Cells;
