@@ -1,8 +1,11 @@
 //! Places: where in a run a value is made. They name objects and lazies.
 
-ghost use Rattle.std.specs.Prelude.{◌≡◌};
+ghost use Rattle.std.specs.Prelude.{◌≡◌, ◌↔◌, IfOk, IsTrue};
+ghost use Rattle.dg_value.specs.Places as spec;
 
+use dg_types::NoMemory;
 use smallvec::SmallVec;
+use std::alloc::Global;
 use std::marker::Model;
 
 /// Where the evaluation of a place begins.
@@ -17,7 +20,7 @@ pub enum PlaceRoot {
 }
 
 /// A step from the place of a whole to that of a part.
-#[derive(Clone, Copy, Debug, PartialEq, Eq)]
+#[derive(Clone, Copy, Debug, Default, PartialEq, Eq)]
 pub enum PlaceStep {
     /// A parameter, counted from 1; the one request of an entry point or of an exposed entry is 1.
     Arg(u32),
@@ -30,6 +33,7 @@ pub enum PlaceStep {
     /// A step of the ask's path, counted from 1.
     Step(u32),
     /// The inside of an optional, or the content of a Lazy.
+    #[default]
     Inside,
 }
 
@@ -49,9 +53,89 @@ impl Model for Steps {
     ghost view = { λ s. s.steps.items };
 }
 
+impl Steps {
+    /// The steps.
+    pub fn as_slice(&self) -> &[PlaceStep]
+        ensures exact { result.now ≡ self.now }
+    {
+        self.steps.as_slice()
+    }
+}
+
 /// A place: where its evaluation begins, and the steps from there.
 #[derive(Drop)]
 pub struct Place {
     pub root: PlaceRoot,
     pub steps: Steps,
+}
+
+impl Place {
+    /// The place of a root alone. It takes no memory.
+    pub fn at_root(alloc: Global, root: PlaceRoot) -> Place
+        ensures exact { result ≡ spec.at_root root }
+    {
+        Place {
+            root,
+            steps: Steps {
+                steps: SmallVec::new(alloc),
+            },
+        }
+    }
+
+    /// An equal place. It takes memory where there are more than eight steps.
+    pub fn copy(&self) -> Result<Place, NoMemory>
+        ensures exact { IfOk result (λ copy. copy ≡ self.now) }
+    {
+        let steps = &self.steps.steps;
+        Ok(Place {
+            root: self.root,
+            steps: Steps {
+                steps: SmallVec::from_slice(*steps.allocator(), steps.as_slice())?,
+            },
+        })
+    }
+
+    /// The place of a part: a step further. It takes memory where it has more than eight steps.
+    pub fn then_step(&self, step: PlaceStep) -> Result<Place, NoMemory>
+        ensures exact { IfOk result (λ place. place ≡ spec.then_step self.now step) }
+    {
+        let before = &self.steps.steps;
+        let mut steps = SmallVec::with_capacity(*before.allocator(), before.len().saturating_add(1))?;
+        steps.extend_from_slice(before.as_slice())?;
+        steps.push(step)?;
+        Ok(Place {
+            root: self.root,
+            steps: Steps { steps },
+        })
+    }
+}
+
+#[tactic(auto, using(crate::proofs::PlaceLemmas::roots_test))]
+fn same_root(a: &PlaceRoot, b: &PlaceRoot) -> bool
+    ensures exact { result ≡ spec.same_root a.now b.now }
+{
+    a == b
+}
+
+#[tactic(auto, using(crate::proofs::PlaceLemmas::steps_test))]
+fn same_steps(a: &[PlaceStep], b: &[PlaceStep]) -> bool
+    ensures exact { result ≡ spec.same_steps a.now b.now }
+{
+    a == b
+}
+
+#[tactic(auto, unfolding(crate::specs::Places::same_place))]
+fn is_same(p: &Place, q: &Place) -> bool
+    ensures exact { result ≡ spec.same_place p.now q.now }
+{
+    same_root(&p.root, &q.root) && same_steps(p.steps.as_slice(), q.steps.as_slice())
+}
+
+/// Whether two places are one.
+#[tactic(auto, using(crate::proofs::PlaceLemmas::places_tell_equal))]
+pub fn same_place(p: &Place, q: &Place) -> bool
+    ensures exact { result ≡ spec.same_place p.now q.now }
+    ensures equal { IsTrue result ↔ (p.now ≡ q.now) }
+{
+    is_same(p, q)
 }

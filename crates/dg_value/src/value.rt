@@ -1,6 +1,8 @@
+ghost use Rattle.std.specs.Prelude.{◌≡◌, IfOk};
+
 use crate::place::Place;
 use crate::shared::Shared;
-use dg_types::{MapKeyVal, Text};
+use dg_types::{MapKeyVal, NoMemory, Text};
 use sqlite_items::Items;
 
 /// What an expression gives. Values share their parts, so that a copy takes the time of its place
@@ -71,4 +73,72 @@ pub enum Reply {
     Failed(Failure),
     /// A map has no entry of the key that the path names, or an optional on the path is absent.
     Absent,
+}
+
+impl Value {
+    /// An equal value. It shares its parts with this one, so that it takes memory for a place of more
+    /// than eight steps alone.
+    pub fn copy(&self) -> Result<Value, NoMemory>
+        ensures exact { IfOk result (λ copy. copy ≡ self.now) }
+    {
+        match self {
+            Value::Text(text) => Ok(Value::Text(text.share()?)),
+            Value::Int(n) => Ok(Value::Int(*n)),
+            Value::Object {
+                class,
+                ident,
+                fields,
+            } => Ok(Value::Object {
+                class: *class,
+                ident: ident.copy()?,
+                fields: fields.share()?,
+            }),
+            Value::Held { inst, slot } => Ok(Value::Held {
+                inst: *inst,
+                slot: *slot,
+            }),
+            Value::Set(elements) => Ok(Value::Set(elements.share()?)),
+            Value::Map(entries) => Ok(Value::Map(entries.share()?)),
+            Value::Provider { inst, slot } => Ok(Value::Provider {
+                inst: *inst,
+                slot: *slot,
+            }),
+            Value::ProviderLazy { inst, slot } => Ok(Value::ProviderLazy {
+                inst: *inst,
+                slot: *slot,
+            }),
+            Value::Lazy { inst, slot, place } => Ok(Value::Lazy {
+                inst: *inst,
+                slot: *slot,
+                place: place.copy()?,
+            }),
+            Value::Opt(None) => Ok(Value::Opt(None)),
+            Value::Opt(Some(inside)) => Ok(Value::Opt(Some(inside.share()?))),
+            Value::Outcome(kept) => Ok(Value::Outcome(kept.share()?)),
+        }
+    }
+}
+
+impl Kept {
+    /// What is equally kept. It shares its parts with this one.
+    pub fn copy(&self) -> Result<Kept, NoMemory>
+        ensures exact { IfOk result (λ copy. copy ≡ self.now) }
+    {
+        match self {
+            Kept::Value(value) => Ok(Kept::Value(value.copy()?)),
+            Kept::Failed(failure) => Ok(Kept::Failed(failure.copy()?)),
+        }
+    }
+}
+
+impl Failure {
+    /// An equal failure. It shares its message with this one and takes no memory.
+    pub fn copy(&self) -> Result<Failure, NoMemory>
+        ensures exact { IfOk result (λ copy. copy ≡ self.now) }
+    {
+        Ok(Failure {
+            origin: self.origin,
+            message: self.message.share()?,
+        })
+    }
 }

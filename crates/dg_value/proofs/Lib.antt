@@ -1,0 +1,3 @@
+pub mod ElementLemmas
+pub mod LookLemmas
+pub mod PlaceLemmas
