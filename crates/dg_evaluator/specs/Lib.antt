@@ -1,3 +1,4 @@
 pub mod Scopes
 pub mod Results
 pub mod Ends
+pub mod Depths

@@ -1,8 +1,8 @@
 //! The evaluator: what a slot or an ask comes to, over contents that others keep.
 #![tactic(auto)]
 
+mod below;
 mod cells;
-mod copies;
 mod operations;
 mod outcome;
 mod parts;

@@ -4,7 +4,6 @@ ghost use Rattle.dg_eval.specs.Operations as spec;
 ghost use Rattle.dg_eval.specs.Runs as runs;
 ghost use Rattle.dg_evaluator.specs.Results.{Gave};
 
-use crate::copies::{failure_copy, value_copy};
 use crate::parts;
 use crate::stop::Stop;
 use dg_types::{NoMemory, Text};
@@ -129,7 +128,7 @@ pub fn field(alloc: Global, index: u32, v: &Value) -> Result<Value, Stop>
     ensures exact { Gave (spec.field_in index v.now) result }
 {
     match parts::field(v, index) {
-        Some(field) => Ok(value_copy(field)?),
+        Some(field) => Ok(field.copy()?),
         None => mistyped(alloc),
     }
 }
@@ -139,8 +138,8 @@ fn value_of_kept(kept: &Kept) -> Result<Value, Stop>
     ensures exact { Gave (spec.value_of_kept kept.now) result }
 {
     match kept {
-        Kept::Value(value) => Ok(value_copy(value)?),
-        Kept::Failed(failure) => Err(Stop::Failed(failure_copy(failure)?)),
+        Kept::Value(value) => Ok(value.copy()?),
+        Kept::Failed(failure) => Err(Stop::Failed(failure.copy()?)),
     }
 }
 
