@@ -189,7 +189,6 @@ ran_then {A} {B} s (Some (Ok b, asks)) next a x y z result c h k =
           k.asked;
     }
 
-
 used_none : (doc : Doc) (xs : List Asked) → AllUsed doc xs []
 used_none doc xs y c = absurd (none_asked y c)
 

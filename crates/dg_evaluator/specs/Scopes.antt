@@ -13,7 +13,8 @@ use Rattle.dg_eval.specs.World.{world_of}
 use Rattle.dg_eval.specs.Meaning.{content_of, lazy_content_of}
 use Rattle.dg_eval.specs.Asks.{asked_by, used}
 
--- What such an object keeps throughout: its document, and which cells and Lazies may be asked of it.
+-- What such an object keeps throughout: its document, and which cells and Lazies may be asked of
+-- it.
 pub record Scope : Type 0 where
   pub doc : Doc
   pub may : List Asked
