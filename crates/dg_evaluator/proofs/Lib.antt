@@ -6,3 +6,5 @@ pub mod BodyOfMulti
 pub mod Productions
 pub mod Passing
 pub mod Behind
+pub mod TextLemmas
+pub mod RanLemmas

@@ -1,8 +1,7 @@
 -- Where the evaluation of a slot ends: in a value, or in the cell of a producer.
-use Rattle.std.specs.Prelude.{◌≡◌, ℕ, Option, Some, None, Result, Ok, Err, option_map}
+use Rattle.std.specs.Prelude.{ℕ, Option, Result, Ok, Err, option_map}
 use Rattle.std.specs.Option.{option_map_or}
 use Rattle.dg_decl.specs.declared.document.Doc.{Doc}
-use Rattle.dg_decl.specs.declared.binding.BindRef.{BindRef}
 use Rattle.dg_decl.specs.declared.binding.BindRef.TheVariants as binding
 use Rattle.dg_decl.specs.declared.graph.Node.{Node}
 use Rattle.dg_decl.specs.declared.graph.NodeKind.{NodeKind}

@@ -1,5 +1,5 @@
 -- What a call of the evaluator has to do with the run that it makes.
-use Rattle.std.specs.Prelude.{◌≡◌, ℕ, List, [], ◌∷◌, Option, Some, None, Result, Ok, Err, Contains, option_map}
+use Rattle.std.specs.Prelude.{◌≡◌, List, Option, Some, None, Result, Ok, Err, Contains, option_map}
 use Rattle.dg_decl.specs.declared.document.Doc.{Doc}
 use Rattle.dg_eval.specs.Runs.{Asked, Run, asks_of}
 use Rattle.dg_evaluator.specs.declared.stop.Stop.{Stop}

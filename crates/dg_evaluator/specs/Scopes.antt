@@ -1,5 +1,5 @@
 -- What may be asked of an object that keeps contents, and what it was asked for.
-use Rattle.std.specs.Prelude.{◌≡◌, ℕ, List, [], ◌∷◌, ◌++◌, Option, Some, None, Result, Ok, Err, Contains, IfOk, option_map}
+use Rattle.std.specs.Prelude.{◌≡◌, ℕ, List, ◌++◌, Option, Some, None, Result, Ok, Err, Contains, IfOk, option_map}
 use Rattle.dg_types.specs.declared.memory.NoMemory.{NoMemory}
 use Rattle.dg_decl.specs.declared.document.Doc.{Doc}
 use Rattle.dg_decl.specs.Diagnostics.{IsAccepted}
@@ -13,7 +13,8 @@ use Rattle.dg_eval.specs.World.{world_of}
 use Rattle.dg_eval.specs.Meaning.{content_of, lazy_content_of}
 use Rattle.dg_eval.specs.Asks.{asked_by, used}
 
--- What such an object keeps throughout: its document, and which cells and Lazies may be asked of it.
+-- What such an object keeps throughout: its document, and which cells and Lazies may be asked of
+-- it.
 pub record Scope : Type 0 where
   pub doc : Doc
   pub may : List Asked

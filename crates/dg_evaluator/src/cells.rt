@@ -24,14 +24,25 @@ pub trait Cells {
         ensures exact { Answers (cell inst slot) (cell inst slot ∷ []) (scope self.old) (scope self.new) (asked self.old) (asked self.new) result };
 
     /// The content of the Lazy that was made at a place, held or made.
-    fn lazy_or<B: Build<Self>>(&mut self, inst: u32, slot: u32, place: &Place, build: B) -> Result<Kept, NoMemory>
+    fn lazy_or<B: Build<Self>>(
+        &mut self,
+        inst: u32,
+        slot: u32,
+        place: &Place,
+        build: B,
+    ) -> Result<Kept, NoMemory>
         requires may { Contains (scope self.old).may (lazy_at inst slot place.now) }
         requires can { (s : Self) → scope s ≡ scope self.old → B.can_build build s }
         requires gives { (s t : Self) (r : _) → scope s ≡ scope self.old → B.build_gives build s r t → Answers (lazy_at inst slot place.now) (asked_by (scope s).doc (lazy_at inst slot place.now)) (scope s) (scope t) (asked s) (asked t) r }
         ensures exact { Answers (lazy_at inst slot place.now) (lazy_at inst slot place.now ∷ []) (scope self.old) (scope self.new) (asked self.old) (asked self.new) result };
 
     /// The content of the cell of a slot in an instance, held or made by a closure.
-    final fn kept<F: FnOnce(&mut Self) -> Result<Kept, NoMemory>>(&mut self, inst: u32, slot: u32, build: F) -> Result<Kept, NoMemory>
+    final fn kept<F: FnOnce(&mut Self) -> Result<Kept, NoMemory>>(
+        &mut self,
+        inst: u32,
+        slot: u32,
+        build: F,
+    ) -> Result<Kept, NoMemory>
     where
         Self: Sized,
         requires may { Contains (scope self.old).may (cell inst slot) }
@@ -43,7 +54,13 @@ pub trait Cells {
     }
 
     /// The content of the Lazy that was made at a place, held or made by a closure.
-    final fn lazy<F: FnOnce(&mut Self) -> Result<Kept, NoMemory>>(&mut self, inst: u32, slot: u32, place: &Place, build: F) -> Result<Kept, NoMemory>
+    final fn lazy<F: FnOnce(&mut Self) -> Result<Kept, NoMemory>>(
+        &mut self,
+        inst: u32,
+        slot: u32,
+        place: &Place,
+        build: F,
+    ) -> Result<Kept, NoMemory>
     where
         Self: Sized,
         requires may { Contains (scope self.old).may (lazy_at inst slot place.now) }

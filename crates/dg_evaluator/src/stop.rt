@@ -1,3 +1,6 @@
+ghost use Rattle.std.specs.Prelude.{◌≡◌};
+ghost use Rattle.dg_evaluator.specs.declared.stop.Stop.TheVariants as stop;
+
 use dg_types::NoMemory;
 use dg_value::Failure;
 use std::alloc::{AllocError, AllocFailed};
@@ -11,18 +14,24 @@ pub enum Stop {
 }
 
 impl From<NoMemory> for Stop {
+    ghost from_gives = { λ _ e. e ≡ stop.NoMemory };
+
     fn from(_: NoMemory) -> Stop {
         Stop::NoMemory
     }
 }
 
 impl From<AllocError> for Stop {
+    ghost from_gives = { λ _ e. e ≡ stop.NoMemory };
+
     fn from(_: AllocError) -> Stop {
         Stop::NoMemory
     }
 }
 
 impl<T: Drop> From<AllocFailed<T>> for Stop {
+    ghost from_gives = { λ _ e. e ≡ stop.NoMemory };
+
     fn from(_: AllocFailed<T>) -> Stop {
         Stop::NoMemory
     }
