@@ -96,10 +96,10 @@ passes_some doc accepted n among t =
     (input_mode doc n t.one.only x.0 x.1 ∙ t.one.mode) in (
       x.0,
       ap (λ (k : Bool). cond (k || not (gives_first_param (body_of_node doc n))) None
-      (option_and_then as_instance (slice_get (inputs_of doc n) 0))) t.plain
-      ∙ ap (λ (g : Bool). cond (not g) None
-      (option_and_then as_instance (slice_get (inputs_of doc n) 0))) t.body
-      ∙ ap (option_and_then as_instance) first ∙ given,
+          (option_and_then as_instance (slice_get (inputs_of doc n) 0))) t.plain
+          ∙ ap (λ (g : Bool). cond (not g) None
+          (option_and_then as_instance (slice_get (inputs_of doc n) 0))) t.body
+          ∙ ap (option_and_then as_instance) first ∙ given,
     )
 
 -- ---- whether there is a production
@@ -207,8 +207,12 @@ step_behind : (doc : Doc) (i k : ℕ) (n next : Node) (t : Target) → node_at d
     → IsBehind doc t.inst t.slot next o → IsBehind doc i k n o
 step_behind doc i k n next t is not_one first same o b = record {
   none = λ h. b.none (sym same ∙ h);
-  some = λ h. (let w = b.some (sym same ∙ h) in (w.0, w.1, λ times there. at_times w.0 w.2 times
-      there));
+  some = λ h. (let w = b.some (sym same ∙ h) in (
+    w.0,
+    w.1,
+    λ times there. at_times w.0 w.2 times
+        there,
+  ));
 }
   where
     at_times : (u : Target) → IsProducerOf doc t.inst t.slot u → (times : ℕ)

@@ -292,7 +292,7 @@ binds_most : (doc : Doc) (class m : ℕ) (x : Item) (param : Param) → item_at 
 unfolding deps
 binds_most doc class m x param e is =
     let are : deps doc (node_of class (node.Bound (binding.Member m)))
-        ≡ filter_map (of_param doc class) (param ∷ []) =
+    ≡ filter_map (of_param doc class) (param ∷ []) =
     ap (λ (o : Option Item). option_map_or (λ (x : Item). filter_map (of_param doc class)
     (params_of x)) o []) e ∙ ap (filter_map (of_param doc class)) is in
     subst AtMostOne (sym are) (one_most (of_param doc class) param)

@@ -72,7 +72,7 @@ kept_by : (doc : Doc) (n : Node) → is_kept (cell_of doc n) ≡ is_cell_node do
 kept_by doc n = by_parts (scope_of doc n) (is_producer doc n)
   where
     by_parts : (o : Option Bytes) (b : Bool) → is_kept (option_map_or (λ scope. cell.Scoped) o
-        (elim b [ | true ↦ cell.Producing | false ↦ cell.Plain ])) ≡ (is_some o || b)
+        (elim b [ true ↦ cell.Producing | false ↦ cell.Plain ])) ≡ (is_some o || b)
     by_parts None true = refl
     by_parts None false = refl
     by_parts (Some s) b = refl

@@ -167,7 +167,7 @@ other_kinds doc class s c h =
     h) [
       | inl entry ↦ entry_only _ s.index c entry
       | inr group ↦ (let o = out_flat_map (λ (b : Bind). groups_of doc class s b.kind b.key)
-              (filter (λ (b : Bind). b.item == s.index) (bindings doc)) (node.Bound c) group in
+          (filter (λ (b : Bind). b.item == s.index) (bindings doc)) (node.Bound c) group in
           in_group doc class s o.0.kind o.0.key c o.2)
     ]
 

@@ -55,7 +55,7 @@ use Rattle.dg_evaluator.proofs.Productions.{producer_is, passed_production, prod
 
 kept_by : (o : Option Bytes) (b : Bool)
     → is_kept (option_map_or (λ scope. cell.Scoped) o
-    (elim b [ | true ↦ cell.Producing | false ↦ cell.Plain ])) ≡ false
+    (elim b [ true ↦ cell.Producing | false ↦ cell.Plain ])) ≡ false
     → (o ≡ None) × (b ≡ false)
 kept_by (Some s) b e = absurd (false≢true (sym e))
 kept_by None true e = absurd (false≢true (sym e))
@@ -67,14 +67,14 @@ plain_cell doc n e = kept_by (scope_of doc n) (is_producer doc n) e
 
 plain_by : (o : Option Bytes) (b : Bool) → o ≡ None → b ≡ false
     → is_kept (option_map_or (λ scope. cell.Scoped) o
-    (elim b [ | true ↦ cell.Producing | false ↦ cell.Plain ])) ≡ false
+    (elim b [ true ↦ cell.Producing | false ↦ cell.Plain ])) ≡ false
 plain_by (Some s) b e f = absurd (none-some s (sym e))
 plain_by None true e f = absurd (false≢true (sym f))
 plain_by None false e f = refl
 
 producing_by : (o : Option Bytes) (b : Bool)
     → is_producing (option_map_or (λ scope. cell.Scoped) o
-    (elim b [ | true ↦ cell.Producing | false ↦ cell.Plain ])) ≡ true → b ≡ true
+    (elim b [ true ↦ cell.Producing | false ↦ cell.Plain ])) ≡ true → b ≡ true
 producing_by (Some s) b e = absurd (false≢true e)
 producing_by None true e = refl
 producing_by None false e = absurd (false≢true e)
@@ -94,7 +94,7 @@ no_scope (Some x) e = of_item x e
 
 has_cell : (o : Option Bytes) (b : Bool) → o ≡ None → b ≡ true
     → is_producing (option_map_or (λ scope. cell.Scoped) o
-    (elim b [ | true ↦ cell.Producing | false ↦ cell.Plain ])) ≡ true
+    (elim b [ true ↦ cell.Producing | false ↦ cell.Plain ])) ≡ true
 has_cell (Some s) b e f = absurd (none-some s (sym e))
 has_cell None true e f = refl
 has_cell None false e f = absurd (false≢true f)
@@ -304,4 +304,3 @@ takes_one doc accepted class b among fails is =
           (sym (ap (λ (d : Dependency). d.key.core) same) ∙ one.key)
           (needs_lead doc class (node.Bound b) d.0 d.1 p.0 d.2);
     }
-
