@@ -1,8 +1,11 @@
 //! Places: where in a run a value is made. They name objects and lazies.
 
-ghost use Rattle.std.specs.Prelude.{◌≡◌};
+ghost use Rattle.std.specs.Prelude.{◌≡◌, IfOk};
+ghost use Rattle.dg_value.specs.Places as spec;
 
+use dg_types::NoMemory;
 use smallvec::SmallVec;
+use std::alloc::Global;
 use std::hash::{Hash, Hasher};
 use std::marker::Model;
 
@@ -18,7 +21,7 @@ pub enum PlaceRoot {
 }
 
 /// A step from the place of a whole to that of a part.
-#[derive(Clone, Copy, Debug, PartialEq, Eq, Hash)]
+#[derive(Clone, Copy, Debug, Default, PartialEq, Eq, Hash)]
 pub enum PlaceStep {
     /// A parameter, counted from 1; the one request of an entry point or of an exposed entry is 1.
     Arg(u32),
@@ -31,6 +34,7 @@ pub enum PlaceStep {
     /// A step of the ask's path, counted from 1.
     Step(u32),
     /// The inside of an optional, or the content of a Lazy.
+    #[default]
     Inside,
 }
 
@@ -92,4 +96,31 @@ impl Hash for Steps {
 pub struct Place {
     pub root: PlaceRoot,
     pub steps: Steps,
+}
+
+impl Place {
+    /// The place of a root alone. It takes no memory.
+    pub fn at_root(alloc: Global, root: PlaceRoot) -> Place
+        ensures exact { result ≡ spec.at_root root }
+    {
+        Place {
+            root,
+            steps: Steps {
+                steps: SmallVec::new(alloc),
+            },
+        }
+    }
+
+    /// An equal place. It takes memory where there are more than eight steps.
+    pub fn copy(&self) -> Result<Place, NoMemory>
+        ensures exact { IfOk result (λ copy. copy ≡ self.now) }
+    {
+        let steps = &self.steps.steps;
+        Ok(Place {
+            root: self.root,
+            steps: Steps {
+                steps: SmallVec::from_slice(*steps.allocator(), steps.as_slice())?,
+            },
+        })
+    }
 }
