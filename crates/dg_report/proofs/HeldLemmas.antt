@@ -140,16 +140,21 @@ module _ (doc : Doc) (content : Content) (times : ℕ) (R : Cell → Type 0)
       → Every R (joined (map cells_in (map (λ p. p.0) ps)))
       → map (shown doc content times) (map (λ p. p.0) ps) ≡ map (value_text doc) ws
   members_shown [] ws e all = ap (map (value_text doc)) (some_same [] ws e)
-  members_shown (p ∷ ps) ws e all = by (whole doc (suc times) p.0) refl e
+  members_shown (p ∷ ps) ws e all =
+      by (λ us is each. members_shown ps us is each) (whole doc (suc times) p.0) refl e
     where
-      by : (o : Option Value) → whole doc (suc times) p.0 ≡ o
+      by : ((us : List Value)
+          → all_some (map (whole doc (suc times)) (map (λ q. q.0) ps)) ≡ Some us
+          → Every R (joined (map cells_in (map (λ q. q.0) ps)))
+          → map (shown doc content times) (map (λ q. q.0) ps) ≡ map (value_text doc) us)
+          → (o : Option Value) → whole doc (suc times) p.0 ≡ o
           → all_some (o ∷ map (whole doc (suc times)) (map (λ q. q.0) ps)) ≡ Some ws
           → map (shown doc content times) (p.0 ∷ map (λ q. q.0) ps) ≡ map (value_text doc) ws
-      by None is e = cc
-      by (Some w) is e =
+      by below None is e = cc
+      by below (Some w) is e =
           let more = made_of (λ more. w ∷ more) (all_some (map (whole doc (suc times)) (map (λ q. q.0) ps))) ws e in
           let here = p.1 w is (every_left R (cells_in p.0) (joined (map cells_in (map (λ q. q.0) ps))) all) in
-          let rest = members_shown ps more.0 more.1.0 (every_right R (cells_in p.0) (joined (map cells_in (map (λ q. q.0) ps))) all) in
+          let rest = below more.0 more.1.0 (every_right R (cells_in p.0) (joined (map cells_in (map (λ q. q.0) ps))) all) in
           (λ i. here i ∷ rest i) ∙ ap (map (value_text doc)) more.1.1
 
   abbrev bare_entries : List (MapKeyVal × Part) → List (MapKeyVal × Value)
@@ -170,16 +175,20 @@ module _ (doc : Doc) (content : Content) (times : ℕ) (R : Cell → Type 0)
       → texts (bare_entries es) (shown doc content times) ≡ texts ws (value_text doc)
   entries_shown [] ws e all =
       ap (λ (xs : List (MapKeyVal × Value)). texts xs (value_text doc)) (some_same [] ws e)
-  entries_shown (p ∷ ps) ws e all = by (whole doc (suc times) p.1.0) refl e
+  entries_shown (p ∷ ps) ws e all =
+      by (λ us is each. entries_shown ps us is each) (whole doc (suc times) p.1.0) refl e
     where
-      by : (o : Option Value) → whole doc (suc times) p.1.0 ≡ o
+      by : ((us : List (MapKeyVal × Value)) → all_some (whole_entries (bare_entries ps)) ≡ Some us
+          → Every R (entry_cells (bare_entries ps))
+          → texts (bare_entries ps) (shown doc content times) ≡ texts us (value_text doc))
+          → (o : Option Value) → whole doc (suc times) p.1.0 ≡ o
           → all_some (value_some (p.0, o) ∷ whole_entries (bare_entries ps)) ≡ Some ws
           → texts (bare_entries (p ∷ ps)) (shown doc content times) ≡ texts ws (value_text doc)
-      by None is e = cc
-      by (Some w) is e =
+      by below None is e = cc
+      by below (Some w) is e =
           let more = made_of (λ more. (p.0, w) ∷ more) (all_some (whole_entries (bare_entries ps))) ws e in
           let here = p.1.1 w is (every_left R (cells_in p.1.0) (entry_cells (bare_entries ps)) all) in
-          let rest = entries_shown ps more.0 more.1.0 (every_right R (cells_in p.1.0) (entry_cells (bare_entries ps)) all) in
+          let rest = below more.0 more.1.0 (every_right R (cells_in p.1.0) (entry_cells (bare_entries ps)) all) in
           (λ i. entry_text (p.0, here i) ∷ rest i)
           ∙ ap (λ (xs : List (MapKeyVal × Value)). texts xs (value_text doc)) more.1.1
 

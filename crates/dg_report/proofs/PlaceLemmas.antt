@@ -1,7 +1,7 @@
 -- The objects that appeared, as the keys of a set.
-use Rattle.std.proofs.Common.{◌≡◌, ℕ, zero, suc, ◌+◌, ◌≤◌, Bool, true, false, cond, not, ◌&&◌, ◌||◌, nat_lt, List, [], ◌∷◌, ◌++◌, length, take, drop, position, Option, Some, None, is_some, if◌then◌else◌, refl, sym, ap, ◌∙◌, append-nil, append_assoc, arith, codes, ◌<◌, ◌-◌}
+use Rattle.std.proofs.Common.{◌≡◌, ℕ, zero, suc, ◌+◌, ◌≤◌, Bool, true, false, cond, not, ◌&&◌, ◌||◌, nat_lt, List, [], ◌∷◌, ◌++◌, length, take, drop, position, Option, Some, None, is_some, if◌then◌else◌, refl, sym, ap, ◌∙◌, append_assoc, length-append, arith, codes, ◌<◌, ◌-◌}
 use Rattle.std.specs.List.{list_any, position_or_len}
-use Rattle.std.proofs.lemmas.Bool.{lt-ltb, le-ltb}
+use Rattle.std.proofs.lemmas.Bool.{lt-ltb, le-ltb, ltb-true, ltb-false}
 use Rattle.std.specs.Cmp.Lexicographic.{pointwise}
 use Rattle.indexmap.specs.IndexSet.{insert_key}
 use Rattle.dg_lex.specs.Bytes.{Bytes}
@@ -15,7 +15,10 @@ use Rattle.dg_value.specs.declared.place.PlaceStep.{PlaceStep}
 use Rattle.dg_value.specs.declared.place.PlaceStep.TheVariants as step
 use Rattle.dg_value.specs.Places.{same_root, same_step, same_steps, same_place}
 use Rattle.dg_eval.specs.Report.{seen_at, print_limit, cut}
-use Rattle.dg_report.specs.Output.{Output, is_new}
+use Rattle.dg_report.specs.Output.{Output, noted}
+
+abbrev output : Bytes → List Place → List Place → Output
+output t s b = record { text = t; seen = s; before = b }
 
 -- ---- the two tests of places agree
 
@@ -54,15 +57,26 @@ some_cond : (b : Bool) (n : ℕ) → is_some (cond b (Some n) None) ≡ b
 some_cond true n = refl
 some_cond false n = refl
 
+lt_step : (a b : ℕ) → nat_lt (1 + a) (suc b) ≡ nat_lt a b
+lt_step a b = by (nat_lt a b) refl
+  where
+    by : (t : Bool) → nat_lt a b ≡ t → nat_lt (1 + a) (suc b) ≡ nat_lt a b
+    by true e =
+        let lt : a < b = ltb-true a b e in
+        lt-ltb (1 + a) (suc b) (omega (arith, lt)) ∙ sym e
+    by false e =
+        let le : b ≤ a = ltb-false a b e in
+        le-ltb (1 + a) (suc b) (omega (arith, le)) ∙ sym e
+
 stands_before : (p : Place → Bool) (xs : List Place)
     → nat_lt (position_or_len p xs) (length xs) ≡ list_any p xs
 stands_before p [] = refl
-stands_before p (x ∷ xs) = by (p x) refl
+stands_before p (x ∷ xs) = by (p x) (stands_before p xs)
   where
-    by : (b : Bool) → p x ≡ b
-        → nat_lt (position_or_len p (x ∷ xs)) (suc (length xs)) ≡ (p x || list_any p xs)
-    by true e = rw e refl
-    by false e = rw e (stands_before p xs)
+    by : (b : Bool) → nat_lt (position_or_len p xs) (length xs) ≡ list_any p xs
+        → nat_lt (cond (not b) (1 + position_or_len p xs) 0) (suc (length xs)) ≡ (b || list_any p xs)
+    by true more = lt-ltb 0 (suc (length xs)) (omega arith)
+    by false more = lt_step (position_or_len p xs) (length xs) ∙ more
 
 found_any : (p : Place → Bool) (xs : List Place) → is_some (position p xs) ≡ list_any p xs
 found_any p xs =
@@ -94,11 +108,31 @@ pub take_all : {A : Type 0} (xs : List A) → take (length xs) xs ≡ xs
 take_all [] = refl
 take_all (x ∷ xs) = ap (λ (l : List _). x ∷ l) (take_all xs)
 
+pub noted_made : (text : Bytes) (seen new : List Place) (n : ℕ) (p : Place) (o : Output)
+    → record { text = text; seen = seen; before = take n seen } ≡ o → n ≤ length seen
+    → new ≡ seen ++ p ∷ [] → record { text = text; seen = new; before = take n new } ≡ noted o p
+noted_made text seen new n p o is within e =
+    ap (λ (xs : List Place). output text xs (take n xs)) e
+    ∙ ap (λ (xs : List Place). output text (seen ++ p ∷ []) xs) (take_front n seen (p ∷ []) within)
+    ∙ ap (λ (x : Output). noted x p) is
+
+pub number_made : (text : Bytes) (seen new : List Place) (n r : ℕ) (p : Place) (o : Output)
+    → record { text = text; seen = seen; before = take n seen } ≡ o → r ≡ length new
+    → new ≡ seen ++ p ∷ [] → r ≡ suc (length o.seen)
+number_made text seen new n r p o is count e =
+    let more = length-append seen (p ∷ []) in
+    let one : r ≡ length (seen ++ p ∷ []) = count ∙ ap length e in
+    let all : r ≡ suc (length seen) = omega (arith, one, more) in
+    all ∙ ap (λ (x : Output). suc (length x.seen)) is
+
 take_past : {A : Type 0} (n m : ℕ) (xs : List A) → n ≤ length xs
     → take (n + m) xs ≡ take n xs ++ take m (drop n xs)
-take_past zero m xs le = refl
+take_past zero m xs le = ap (λ (k : ℕ). take k xs) (omega arith)
 take_past (suc n) m [] le = absurd (omega arith)
-take_past (suc n) m (x ∷ xs) le = ap (λ (l : List _). x ∷ l) (take_past n m xs (omega arith))
+take_past (suc n) m (x ∷ xs) le =
+    let more : suc n + m ≡ suc (n + m) = omega arith in
+    ap (λ (k : ℕ). take k (x ∷ xs)) more
+    ∙ ap (λ (l : List _). x ∷ l) (take_past n m xs (omega arith))
 
 both_parts : {A : Type 0} (n : ℕ) (xs : List A) → take n xs ++ drop n xs ≡ xs
 both_parts zero xs = refl
@@ -106,9 +140,11 @@ both_parts (suc n) [] = refl
 both_parts (suc n) (x ∷ xs) = ap (λ (l : List _). x ∷ l) (both_parts n xs)
 
 left_over : {A : Type 0} (n : ℕ) (xs : List A) → n ≤ length xs → n + length (drop n xs) ≡ length xs
-left_over zero xs le = refl
+left_over zero xs le = omega arith
 left_over (suc n) [] le = absurd (omega arith)
-left_over (suc n) (x ∷ xs) le = ap suc (left_over n xs (omega arith))
+left_over (suc n) (x ∷ xs) le =
+    let more = left_over n xs (omega arith) in
+    omega (arith, more)
 
 lt_true : (m n : ℕ) → m < n → nat_lt m n ≡ true
 lt_true m n lt = lt-ltb m n lt

@@ -2,6 +2,7 @@
 use Rattle.std.proofs.Common.{◌≡◌, ℕ, zero, suc, ◌+◌, ◌-◌, ◌<◌, ◌≤◌, Bool, true, false, ◌==◌, List, [], ◌∷◌, ◌++◌, length, get_or, map, Option, Some, None, codes, refl, sym, ap, ◌∙◌, arith}
 use Rattle.std.specs.Prelude.{ℤ}
 use Rattle.std.specs.Fmt.{signed_decimal}
+use Rattle.std.proofs.lemmas.Bool.{eqb-true}
 use Rattle.dg_lex.specs.Bytes.{Bytes}
 use Rattle.dg_lex.specs.Lexemes.{quoted}
 use Rattle.dg_types.specs.declared.key.MapKeyVal.{MapKeyVal}
@@ -171,7 +172,9 @@ pub cell_unread : (doc : Doc) (content : Content) (times i k : ℕ) (o : Output)
     → (times == 0) ≡ true → o ≡ with_cell doc content times i k o
 unfolding with_cell cell_shown
 cell_unread doc content zero i k o e = sym (followed_none o)
-cell_unread doc content (suc times) i k o e = cc
+cell_unread doc content (suc times) i k o e =
+    let none : suc times ≡ 0 = eqb-true (suc times) 0 e in
+    absurd (omega (arith, none))
 
 pub cell_empty : (doc : Doc) (content : Content) (times i k : ℕ) (o : Output)
     → content i k ≡ None → o ≡ with_cell doc content times i k o
@@ -227,7 +230,8 @@ weigh : (content : Content) (times : ℕ) (l : Layer) (v : Value) → roll-Value
 weigh content times l v e = ap (weight content times) (sym e) ∙ weighs content times l
 
 map_total : (f : Value → ℕ) (es : List (MapKeyVal × Value))
-    → total (map (λ e. e.1) (map (λ e. (e.0, f e.1)) es)) ≡ total (map (λ e. f e.1) es)
+    → total (map (λ (e : MapKeyVal × ℕ). e.1) (map (λ e. (e.0, f e.1)) es))
+    ≡ total (map (λ e. f e.1) es)
 map_total f [] = refl
 map_total f (e ∷ es) = ap (λ (n : ℕ). suc (f e.1) + n) (map_total f es)
 

@@ -1,6 +1,6 @@
 //! A text to which a reply is appended, and the objects that appeared before its end.
 
-ghost use Rattle.std.specs.Prelude.{◌≡◌, ◌<◌, ◌≤◌, ◌^◌, [], suc, true, decimal, length, IfOk, IfSome, OnOk};
+ghost use Rattle.std.specs.Prelude.{◌≡◌, ◌<◌, ◌≤◌, ◌^◌, ◌++◌, ◌∷◌, [], not, is_some, suc, true, decimal, length, IfOk, IfSome, OnErr, OnOk};
 ghost use Rattle.std.specs.Fmt.{signed_decimal};
 ghost use Rattle.dg_eval.specs.Report.{seen_at};
 ghost use Rattle.dg_lex.specs.Lexemes.{quoted};
@@ -41,6 +41,17 @@ impl Model for Output {
     } };
 
     ghost invariant = { λ o. o.before ≤ length o.places.keys };
+}
+
+/// Adds an object that isn't among the others.
+fn add_new(ident: &Place, places: &mut IndexSet<Place>) -> Result<(), NoMemory>
+    requires new { not (is_some (seen_at ident.now places.old.keys)) ≡ true }
+    ensures exact { OnOk result (places.new.keys ≡ places.old.keys ++ ident.now ∷ []) }
+    ensures kept { OnErr result (places.new.keys ≡ places.old.keys) }
+{
+    let copy = ident.copy()?;
+    places.insert(copy)?;
+    Ok(())
 }
 
 impl Output {
@@ -159,7 +170,7 @@ impl Output {
         ensures number { IfOk result (λ number. number ≡ suc (length self.old.seen)) }
         ensures kept { self.new.before ≡ self.old.before }
     {
-        self.places.insert(ident.copy()?)?;
+        add_new(ident, &mut self.places)?;
         Ok(self.places.len())
     }
 

@@ -35,7 +35,8 @@ fn push_cut<C: Contents>(
 {
     let start = out.len();
     push_value(names, cells, MOST_CELLS, v, out)?;
-    out.cut_behind(start)
+    out.cut_behind(start)?;
+    Ok(())
 }
 
 /// Appends the name of the slot whose body failed.
@@ -65,10 +66,12 @@ fn push_failure<'a>(
     out.push(b"failed ")?;
     push_origin(p, f, out)?;
     out.push(b" ")?;
-    out.push_quoted(f.message.get().as_slice())
+    out.push_quoted(f.message.get().as_slice())?;
+    Ok(())
 }
 
 /// Appends a reply.
+#[tactic(auto, using(crate::proofs::ReplyLemmas::reply_forms))]
 fn push_reply<C: Contents>(
     names: &ClassNames<'_>,
     p: &Plan,
@@ -107,7 +110,8 @@ fn push_line<C: Contents>(
     out.push_decimal(number as usize)?;
     out.push(b" ")?;
     push_reply(names, p, cells, r, out)?;
-    out.push(b"\n")
+    out.push(b"\n")?;
+    Ok(())
 }
 
 /// The line of the reply to the ask of this number, counted from 1, behind the replies whose objects

@@ -169,7 +169,6 @@ fn push_map<C: Contents>(
 
 /// Appends the content of a cell, through at most so many cells.
 #[cycle(values)]
-#[tactic(auto, using(crate::proofs::ShownLemmas::cell_forms))]
 fn push_cell<C: Contents>(
     names: &ClassNames<'_>,
     cells: &C,
