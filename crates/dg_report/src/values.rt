@@ -185,7 +185,7 @@ fn push_cell<C: Contents>(
         return Ok(());
     }
     match cells.kept(inst, slot) {
-        Some(kept) => push_kept(names, cells, left - 1, kept, out),
+        Some(kept) => Ok(push_kept(names, cells, left - 1, kept, out)?),
         None => Ok(()),
     }
 }
