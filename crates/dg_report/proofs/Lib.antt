@@ -1,4 +1,5 @@
 pub mod HeldLemmas
+pub mod LoopLemmas
 pub mod OutputLemmas
 pub mod PlaceLemmas
 pub mod ReplyLemmas

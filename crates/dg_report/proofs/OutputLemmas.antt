@@ -1,5 +1,5 @@
 -- Texts that are appended one behind another.
-use Rattle.std.proofs.Common.{◌≡◌, ℕ, zero, suc, ◌+◌, List, [], ◌∷◌, ◌++◌, length, map, drop, Option, Some, None, slice_get, is_some, codes, decimal, refl, sym, ap, ◌∙◌, append-nil, append_assoc}
+use Rattle.std.proofs.Common.{◌≡◌, ℕ, zero, suc, ◌+◌, Bool, true, false, List, [], ◌∷◌, ◌++◌, length, map, drop, Option, Some, None, slice_get, is_some, codes, decimal, refl, sym, ap, ◌∙◌, append-nil, append_assoc}
 use Rattle.std.specs.Option.{option_map_or}
 use Rattle.dg_lex.specs.Bytes.{Bytes}
 use Rattle.dg_types.specs.declared.key.MapKeyVal.{MapKeyVal}
@@ -209,3 +209,32 @@ object_followed f g same doc class ident vs o = by (seen_at ident o.seen) refl
         (λ n. fields_listed f g same (value_fields doc class) n vs)
         (value_class_name doc class) (decimal (suc (length o.seen))) ident o))
     by (Some k) e = rw e (sym (object_known (value_class_name doc class) (decimal (suc k)) o))
+
+pub object_entered : (doc : Doc) (fields : Output → Output) (class : ℕ) (ident : Place)
+    (name : Bytes) (old a b c d e new : Output) (is : Bool)
+    → name ≡ value_class_name doc class
+    → a ≡ with_text old name → b ≡ with_text a (codes "#") → c ≡ with_number b ident
+    → is ≡ is_new b ident → is ≡ true → d ≡ with_text c (codes "{") → e ≡ fields d
+    → new ≡ with_text e (codes "}") → new ≡ with_object doc fields class ident old
+unfolding with_text
+object_entered doc fields class ident name old a b c d e new is en ea eb ec ei yes ed ee e_new =
+    let named : b ≡ with_text (with_text old (value_class_name doc class)) (codes "#") =
+    eb ∙ ap (λ (o : Output). with_text o (codes "#"))
+    (ea ∙ ap (λ (t : Bytes). with_text old t) en) in
+    let fresh : is_new old ident ≡ true = sym (ap (λ (o : Output). is_new o ident) named) ∙ sym ei ∙ yes in
+    rw fresh (e_new ∙ ap (λ (o : Output). with_text o (codes "}")) (ee
+    ∙ ap fields (ed ∙ ap (λ (o : Output). with_text o (codes "{")) (ec
+    ∙ ap (λ (o : Output). with_number o ident) named))))
+
+pub object_named : (doc : Doc) (fields : Output → Output) (class : ℕ) (ident : Place)
+    (name : Bytes) (old a b new : Output) (is : Bool)
+    → name ≡ value_class_name doc class
+    → a ≡ with_text old name → b ≡ with_text a (codes "#") → new ≡ with_number b ident
+    → is ≡ is_new b ident → is ≡ false → new ≡ with_object doc fields class ident old
+unfolding with_text
+object_named doc fields class ident name old a b new is en ea eb ec ei no =
+    let named : b ≡ with_text (with_text old (value_class_name doc class)) (codes "#") =
+    eb ∙ ap (λ (o : Output). with_text o (codes "#"))
+    (ea ∙ ap (λ (t : Bytes). with_text old t) en) in
+    let known : is_new old ident ≡ false = sym (ap (λ (o : Output). is_new o ident) named) ∙ sym ei ∙ no in
+    rw known (ec ∙ ap (λ (o : Output). with_number o ident) named)

@@ -1,5 +1,5 @@
 -- What is appended for a value, form by form, and how much is walked through.
-use Rattle.std.proofs.Common.{◌≡◌, ℕ, zero, suc, ◌+◌, ◌-◌, ◌<◌, ◌≤◌, Bool, true, false, ◌==◌, List, [], ◌∷◌, ◌++◌, length, get_or, map, Option, Some, None, codes, refl, sym, ap, ◌∙◌, arith}
+use Rattle.std.proofs.Common.{◌≡◌, ℕ, zero, suc, ◌+◌, ◌-◌, ◌<◌, ◌≤◌, Bool, true, false, ◌==◌, List, [], ◌∷◌, ◌++◌, length, get_or, map, Option, Some, None, option_map, codes, refl, sym, ap, ◌∙◌, arith}
 use Rattle.std.specs.Prelude.{ℤ}
 use Rattle.std.specs.Fmt.{signed_decimal}
 use Rattle.std.proofs.lemmas.Bool.{eqb-true}
@@ -18,8 +18,8 @@ use Rattle.dg_value.specs.declared.value.Value.{Value}
 use Rattle.dg_value.specs.declared.value.Value.TheVariants as value
 use Rattle.dg_eval.specs.Report.{Printing, as_it_is, behind, between, listed, entry_text, object_text, kept_text_at, value_fields}
 use Rattle.dg_report.specs.Held.{Content}
-use Rattle.dg_report.specs.Output.{Output, followed, with_text, with_set, with_map, with_fields, with_object}
-use Rattle.dg_report.specs.Shown.{shown_at, shown_by, kept_by, shown, cell_shown, with_value, with_kept, with_cell, total, weight_at, kept_weight_at, weight_by, kept_weight_by, weight, cell_weight, kept_weight}
+use Rattle.dg_report.specs.Output.{Output, followed, with_text, with_set, with_map, with_inside, with_fields, with_object}
+use Rattle.dg_report.specs.Shown.{shown_at, shown_by, kept_by, shown, cell_shown, with_value, with_kept, with_cell, total, inside_weight, weight_at, kept_weight_at, weight_by, kept_weight_by, weight, cell_weight, kept_weight}
 use Rattle.dg_report.proofs.OutputLemmas.{followed_text, followed_none, followed_between, set_listed, map_listed, object_followed}
 
 -- ---- what is printed
@@ -136,14 +136,12 @@ module _ (doc : Doc) (content : Content) (times : ℕ) (o : Output) where
       line doc content times (Value-F.Lazy i k p) (value.Lazy i k p) o (value.rolls-Lazy i k p)
       ∙ followed_text o (codes "Lazy")
 
-  pub line-None : with_value doc content times o (value.Opt None) ≡ with_text o (codes "none")
-  line-None =
+  pub line-Opt : (x : Option Value) → with_value doc content times o (value.Opt x)
+      ≡ with_inside (with_value doc content times) o x
+  line-Opt None =
       line doc content times (Value-F.Opt None) (value.Opt None) o (value.rolls-Opt None)
       ∙ followed_text o (codes "none")
-
-  pub line-Some : (v : Value) → with_value doc content times o (value.Opt (Some v))
-      ≡ with_text (with_value doc content times (with_text o (codes "some(")) v) (codes ")")
-  line-Some v =
+  line-Opt (Some v) =
       line doc content times (Value-F.Opt (Some v)) (value.Opt (Some v)) o
       (value.rolls-Opt (Some v))
       ∙ followed_between o (codes "some(") (shown doc content times v) (codes ")")
@@ -193,7 +191,7 @@ cell_read doc content (suc times) i k o kept ne e =
     less : (t : ℕ) → suc t - 1 ≡ t
     less t = omega arith
 
-pub ruleset value_forms = (line-Text, line-Int, line-Object, line-Held, line-Set, line-Map, line-Provider, line-ProviderLazy, line-Lazy, line-None, line-Some, line-Outcome)
+pub ruleset value_forms = (line-Text, line-Int, line-Object, line-Held, line-Set, line-Map, line-Provider, line-ProviderLazy, line-Lazy, line-Opt, line-Outcome)
 
 pub ruleset kept_forms = (kept-Value, kept-Failed)
 
@@ -257,9 +255,11 @@ module _ (content : Content) (times : ℕ) where
       weigh content times (Value-F.Map es) (value.Map es) (value.rolls-Map es)
       ∙ ap (λ (n : ℕ). 2 + n) (map_total (weight content times) es)
 
-  pub weight-Some : (v : Value) → weight content times (value.Opt (Some v))
-      ≡ 2 + weight content times v
-  weight-Some v = weigh content times (Value-F.Opt (Some v)) (value.Opt (Some v)) (value.rolls-Opt (Some v))
+  pub weight-Opt : (x : Option Value) → weight content times (value.Opt x)
+      ≡ 2 + inside_weight (option_map (weight content times) x)
+  weight-Opt None = weigh content times (Value-F.Opt None) (value.Opt None) (value.rolls-Opt None)
+  weight-Opt (Some v) =
+      weigh content times (Value-F.Opt (Some v)) (value.Opt (Some v)) (value.rolls-Opt (Some v))
 
   pub weight-Outcome : (k : Kept) → weight content times (value.Outcome k)
       ≡ 2 + kept_weight content times k
@@ -289,4 +289,4 @@ member_less f (y ∷ ys) (suc i) x lt is =
     let h = member_less f ys i x (omega arith) is in
     omega (arith, h)
 
-pub ruleset weights = (weight-Object, weight-Held, weight-Set, weight-Map, weight-Some, weight-Outcome, weight-kept)
+pub ruleset weights = (weight-Object, weight-Held, weight-Set, weight-Map, weight-Opt, weight-Outcome, weight-kept)

@@ -51,6 +51,11 @@ with_entry f o e = f (with_text (with_text o (map_key_text e.0)) (codes ":")) e.
 abbrev pub with_map : {V : Type 0} → (Output → V → Output) → Output → List (MapKeyVal × V) → Output
 with_map f o es = with_text (with_members (with_entry f) 0 (with_text o (codes "{")) es) (codes "}")
 
+-- an optional behind a text
+abbrev pub with_inside : {V : Type 0} → (Output → V → Output) → Output → Option V → Output
+with_inside f o None = with_text o (codes "none")
+with_inside f o (Some v) = with_text (f (with_text o (codes "some(")) v) (codes ")")
+
 -- ---- objects
 
 -- an object that didn't appear before

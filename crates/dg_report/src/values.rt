@@ -8,7 +8,7 @@ ghost use Rattle.dg_report.specs.Shown as shown;
 use crate::classes::ClassNames;
 use crate::output::Output;
 use dg_types::{MapKeyVal, NoMemory};
-use dg_value::{Contents, Kept, Place, Value};
+use dg_value::{Contents, Kept, Place, Shared, Value};
 
 /// Appends a value, through at most so many cells. An object that appeared before isn't entered.
 #[cycle(values)]
@@ -38,12 +38,7 @@ pub(crate) fn push_value<C: Contents>(
         Value::Provider { .. } => out.push(b"Provider"),
         Value::ProviderLazy { .. } => out.push(b"Provider"),
         Value::Lazy { .. } => out.push(b"Lazy"),
-        Value::Opt(None) => out.push(b"none"),
-        Value::Opt(Some(inside)) => {
-            out.push(b"some(")?;
-            push_value(names, cells, left, inside.get(), out)?;
-            out.push(b")")
-        }
+        Value::Opt(inside) => push_inside(names, cells, left, inside, out),
         Value::Outcome(kept) => push_kept(names, cells, left, kept.get(), out),
     }
 }
@@ -167,6 +162,29 @@ fn push_map<C: Contents>(
     out.push(b"}")
 }
 
+/// Appends an optional.
+#[cycle(values)]
+fn push_inside<C: Contents>(
+    names: &ClassNames<'_>,
+    cells: &C,
+    left: u32,
+    inside: &Option<Shared<Value>>,
+    out: &mut Output,
+) -> Result<(), NoMemory>
+    ensures exact { OnOk result (out.new ≡ spec.with_inside
+        (shown.with_value names.now (C.content cells.now) left) out.old inside.now) }
+    ensures kept { out.new.before ≡ out.old.before }
+{
+    match inside {
+        None => out.push(b"none"),
+        Some(inside) => {
+            out.push(b"some(")?;
+            push_value(names, cells, left, inside.get(), out)?;
+            out.push(b")")
+        }
+    }
+}
+
 /// Appends the content of a cell, through at most so many cells.
 #[cycle(values)]
 fn push_cell<C: Contents>(
@@ -185,7 +203,7 @@ fn push_cell<C: Contents>(
         return Ok(());
     }
     match cells.kept(inst, slot) {
-        Some(kept) => Ok(push_kept(names, cells, left - 1, kept, out)?),
+        Some(kept) => push_kept(names, cells, left - 1, kept, out),
         None => Ok(()),
     }
 }

@@ -1,7 +1,7 @@
-use Rattle.std.proofs.Common.{◌≡◌, ◌+◌, map, drop}
+use Rattle.std.proofs.Common.{◌≡◌, ◌+◌, map, drop, option_map}
 use Rattle.dg_eval.specs.Report.{value_fields}
-use Rattle.dg_report.specs.Output.{with_members, with_entry, with_fields, with_text}
-use Rattle.dg_report.specs.Shown.{with_value, total, weight, cell_weight, kept_weight}
+use Rattle.dg_report.specs.Output.{with_members, with_entry, with_fields}
+use Rattle.dg_report.specs.Shown.{with_value, total, inside_weight, weight, cell_weight, kept_weight}
 use Rattle.dg_report.proofs.values.+values.Given as goal
 
 abbrev pub decreases-push_value : goal.decreases-push_value
@@ -22,6 +22,10 @@ decreases-push_set g l =
 abbrev pub decreases-push_map : goal.decreases-push_map
 decreases-push_map g l =
     1 + total (map (λ e. weight (g.C.Contents.content l.cells.now) l.left e.1) l.entries.now)
+
+abbrev pub decreases-push_inside : goal.decreases-push_inside
+decreases-push_inside g l =
+    1 + inside_weight (option_map (weight (g.C.Contents.content l.cells.now) l.left) l.inside.now)
 
 abbrev pub decreases-push_cell : goal.decreases-push_cell
 decreases-push_cell g l = 1 + cell_weight (g.C.Contents.content l.cells.now) l.left l.inst l.slot
