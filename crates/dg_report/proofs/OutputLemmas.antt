@@ -217,11 +217,11 @@ pub object_entered : (doc : Doc) (fields : Output → Output) (class : ℕ) (ide
     → is ≡ is_new b ident → is ≡ true → d ≡ with_text c (codes "{") → e ≡ fields d
     → new ≡ with_text e (codes "}") → new ≡ with_object doc fields class ident old
 unfolding with_text
-object_entered doc fields class ident name old a b c d e new is en ea eb ec ei yes ed ee e_new =
+object_entered doc fields class ident name old a b c d e new is en ea eb ec ei told ed ee e_new =
     let named : b ≡ with_text (with_text old (value_class_name doc class)) (codes "#") =
     eb ∙ ap (λ (o : Output). with_text o (codes "#"))
     (ea ∙ ap (λ (t : Bytes). with_text old t) en) in
-    let fresh : is_new old ident ≡ true = sym (ap (λ (o : Output). is_new o ident) named) ∙ sym ei ∙ yes in
+    let fresh : is_new old ident ≡ true = sym (ap (λ (o : Output). is_new o ident) named) ∙ sym ei ∙ told in
     rw fresh (e_new ∙ ap (λ (o : Output). with_text o (codes "}")) (ee
     ∙ ap fields (ed ∙ ap (λ (o : Output). with_text o (codes "{")) (ec
     ∙ ap (λ (o : Output). with_number o ident) named))))
@@ -232,9 +232,9 @@ pub object_named : (doc : Doc) (fields : Output → Output) (class : ℕ) (ident
     → a ≡ with_text old name → b ≡ with_text a (codes "#") → new ≡ with_number b ident
     → is ≡ is_new b ident → is ≡ false → new ≡ with_object doc fields class ident old
 unfolding with_text
-object_named doc fields class ident name old a b new is en ea eb ec ei no =
+object_named doc fields class ident name old a b new is en ea eb ec ei told =
     let named : b ≡ with_text (with_text old (value_class_name doc class)) (codes "#") =
     eb ∙ ap (λ (o : Output). with_text o (codes "#"))
     (ea ∙ ap (λ (t : Bytes). with_text old t) en) in
-    let known : is_new old ident ≡ false = sym (ap (λ (o : Output). is_new o ident) named) ∙ sym ei ∙ no in
+    let known : is_new old ident ≡ false = sym (ap (λ (o : Output). is_new o ident) named) ∙ sym ei ∙ told in
     rw known (ec ∙ ap (λ (o : Output). with_number o ident) named)

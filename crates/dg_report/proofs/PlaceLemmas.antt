@@ -1,5 +1,5 @@
 -- The objects that appeared, as the keys of a set.
-use Rattle.std.proofs.Common.{◌≡◌, ℕ, zero, suc, ◌+◌, ◌≤◌, Bool, true, false, cond, not, ◌&&◌, ◌||◌, nat_lt, List, [], ◌∷◌, ◌++◌, length, take, drop, position, Option, Some, None, is_some, if◌then◌else◌, refl, sym, ap, ◌∙◌, append_assoc, length-append, arith, codes, ◌<◌, ◌-◌}
+use Rattle.std.proofs.Common.{◌≡◌, ℕ, zero, suc, ◌+◌, ◌≤◌, Bool, true, false, cond, not, ◌&&◌, ◌||◌, nat_lt, List, [], ◌∷◌, ◌++◌, length, take, drop, position, Option, Some, None, is_some, if◌then◌else◌, refl, sym, ap, subst, ◌∙◌, append_assoc, length-append, arith, codes, ◌<◌, ◌-◌}
 use Rattle.std.specs.List.{list_any, position_or_len}
 use Rattle.std.proofs.lemmas.Bool.{lt-ltb, le-ltb, ltb-true, ltb-false}
 use Rattle.std.specs.Cmp.Lexicographic.{pointwise}
@@ -15,7 +15,7 @@ use Rattle.dg_value.specs.declared.place.PlaceStep.{PlaceStep}
 use Rattle.dg_value.specs.declared.place.PlaceStep.TheVariants as step
 use Rattle.dg_value.specs.Places.{same_root, same_step, same_steps, same_place}
 use Rattle.dg_eval.specs.Report.{seen_at, print_limit, cut}
-use Rattle.dg_report.specs.Output.{Output, noted}
+use Rattle.dg_report.specs.Output.{Output, noted, with_cut}
 
 abbrev output : Bytes → List Place → List Place → Output
 output t s b = record { text = t; seen = s; before = b }
@@ -174,3 +174,23 @@ cut_behind front t =
     gone : (xs : Bytes) → drop (length xs) (xs ++ t) ≡ t
     gone [] = refl
     gone (x ∷ xs) = gone xs
+
+pub cut_made : (text new : Bytes) (seen before : List Place) (start : ℕ) (o : Output)
+    → record { text = text; seen = seen; before = before } ≡ o → start ≤ length o.text
+    → print_limit < length text - start → new ≡ take (start + print_limit) text ++ codes ".."
+    → record { text = new; seen = seen; before = before } ≡ with_cut start o
+unfolding with_cut
+cut_made text new seen before start o is within long e =
+    let here : start ≤ length text = subst (λ (x : Output). start ≤ length x.text) (sym is) within in
+    ap (λ (t : Bytes). output t seen before) (cut_long start text new here long e)
+    ∙ ap (with_cut start) is
+
+pub uncut : (text : Bytes) (seen before : List Place) (start : ℕ) (o : Output)
+    → record { text = text; seen = seen; before = before } ≡ o → start ≤ length o.text
+    → length text - start ≤ print_limit
+    → record { text = text; seen = seen; before = before } ≡ with_cut start o
+unfolding with_cut
+uncut text seen before start o is within short =
+    let here : start ≤ length text = subst (λ (x : Output). start ≤ length x.text) (sym is) within in
+    ap (λ (t : Bytes). output t seen before) (cut_short start text here short)
+    ∙ ap (with_cut start) is

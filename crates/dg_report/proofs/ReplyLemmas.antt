@@ -1,5 +1,5 @@
 -- The line of a reply, from its parts.
-use Rattle.std.proofs.Common.{◌≡◌, ℕ, zero, suc, List, [], ◌∷◌, ◌++◌, length, map, take, drop, Option, Some, None, option_map, slice_get, codes, decimal, refl, sym, ap, ◌∙◌, append_assoc}
+use Rattle.std.proofs.Common.{◌≡◌, ℕ, zero, suc, List, [], ◌∷◌, ◌++◌, length, map, take, drop, Option, Some, None, option_map, slice_get, codes, decimal, refl, sym, ap, ◌∙◌, ◌≤◌, append_assoc, length-append, arith}
 use Rattle.std.specs.Prelude.{IsSome}
 use Rattle.std.specs.Option.{option_map_or}
 use Rattle.dg_lex.specs.Bytes.{Bytes, line_end}
@@ -50,6 +50,16 @@ value_line doc content v old made new holds e cuts =
         ∙ ap (with_cut (length old.text)) (e
         ∙ ap (followed old) (shown_whole doc content enough v w is holds.1))
         ∙ cut_followed old (value_text doc w))
+
+pub value_longer : (doc : Doc) (content : Content) (times start : ℕ) (v : Value) (old made : Output)
+    → start ≡ length old.text → made ≡ with_value doc content times old v
+    → start ≤ length made.text
+unfolding with_value
+value_longer doc content times start v old made is e =
+    let more = length-append old.text (shown doc content times v old.seen).text in
+    let all : length made.text ≡ length (old.text ++ (shown doc content times v old.seen).text) =
+    ap (λ (o : Output). length o.text) e in
+    omega (arith, is, more, all)
 
 -- ---- failures
 

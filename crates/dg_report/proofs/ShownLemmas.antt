@@ -2,7 +2,6 @@
 use Rattle.std.proofs.Common.{◌≡◌, ℕ, zero, suc, ◌+◌, ◌-◌, ◌<◌, ◌≤◌, Bool, true, false, ◌==◌, List, [], ◌∷◌, ◌++◌, length, get_or, map, Option, Some, None, option_map, codes, refl, sym, ap, ◌∙◌, arith}
 use Rattle.std.specs.Prelude.{ℤ}
 use Rattle.std.specs.Fmt.{signed_decimal}
-use Rattle.std.proofs.lemmas.Bool.{eqb-true}
 use Rattle.dg_lex.specs.Bytes.{Bytes}
 use Rattle.dg_lex.specs.Lexemes.{quoted}
 use Rattle.dg_types.specs.declared.key.MapKeyVal.{MapKeyVal}
@@ -167,12 +166,10 @@ module _ (doc : Doc) (content : Content) (times : ℕ) (o : Output) where
   kept-Failed f = refl
 
 pub cell_unread : (doc : Doc) (content : Content) (times i k : ℕ) (o : Output)
-    → (times == 0) ≡ true → o ≡ with_cell doc content times i k o
+    → times ≡ 0 → o ≡ with_cell doc content times i k o
 unfolding with_cell cell_shown
 cell_unread doc content zero i k o e = sym (followed_none o)
-cell_unread doc content (suc times) i k o e =
-    let none : suc times ≡ 0 = eqb-true (suc times) 0 e in
-    absurd (omega (arith, none))
+cell_unread doc content (suc times) i k o e = absurd (omega (arith, e))
 
 pub cell_empty : (doc : Doc) (content : Content) (times i k : ℕ) (o : Output)
     → content i k ≡ None → o ≡ with_cell doc content times i k o
@@ -181,10 +178,10 @@ cell_empty doc content zero i k o e = sym (followed_none o)
 cell_empty doc content (suc times) i k o e = rw e (sym (followed_none o))
 
 pub cell_read : (doc : Doc) (content : Content) (times i k : ℕ) (o : Output) (kept : Kept)
-    → (times == 0) ≡ false → content i k ≡ Some kept
+    → (times ≡ 0 → ⊥) → content i k ≡ Some kept
     → with_kept doc content (times - 1) o kept ≡ with_cell doc content times i k o
 unfolding with_cell with_kept cell_shown
-cell_read doc content zero i k o kept ne e = cc
+cell_read doc content zero i k o kept ne e = absurd (ne refl)
 cell_read doc content (suc times) i k o kept ne e =
     rw e (ap (λ (t : ℕ). followed o (kept_by (shown doc content t) kept)) (less times))
   where
@@ -270,10 +267,10 @@ module _ (content : Content) (times : ℕ) where
   unfolding kept_weight
   weight-kept v = refl
 
-pub weight_read : (content : Content) (times i k : ℕ) (kept : Kept) → (times == 0) ≡ false
+pub weight_read : (content : Content) (times i k : ℕ) (kept : Kept) → (times ≡ 0 → ⊥)
     → content i k ≡ Some kept → kept_weight content (times - 1) kept ≡ cell_weight content times i k
 unfolding cell_weight kept_weight
-weight_read content zero i k kept ne e = cc
+weight_read content zero i k kept ne e = absurd (ne refl)
 weight_read content (suc times) i k kept ne e =
     rw e (ap (λ (t : ℕ). kept_weight_by (weight content t) kept) (less times))
   where

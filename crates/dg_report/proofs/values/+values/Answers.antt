@@ -1,7 +1,9 @@
-use Rattle.std.proofs.Common.{◌≡◌, ℕ, ◌-◌, ◌<◌, ◌+◌, OnOk, sym, ap, subst, ◌∙◌, arith, option_map}
+use Rattle.std.proofs.Common.{◌≡◌, ℕ, List, ◌-◌, ◌<◌, ◌+◌, OnOk, sym, ap, subst, ◌∙◌, arith, map, option_map}
+use Rattle.dg_types.specs.declared.key.MapKeyVal.{MapKeyVal}
+use Rattle.dg_value.specs.declared.value.Value.{Value}
 use Rattle.dg_eval.specs.Report.{value_fields}
 use Rattle.dg_report.specs.Output.{Output, with_fields}
-use Rattle.dg_report.specs.Shown.{with_value, weight, kept_weight, inside_weight}
+use Rattle.dg_report.specs.Shown.{with_value, total, weight, kept_weight, inside_weight}
 use Rattle.dg_report.proofs.OutputLemmas.{object_entered, object_named}
 use Rattle.dg_report.proofs.ShownLemmas.{cell_unread, cell_empty, cell_read, weight_read, member_less, weight-Object, weight-Held, weight-Set, weight-Map, weight-Opt, weight-Outcome, weight-kept}
 use Rattle.dg_report.proofs.values.+values.Goals as goal
@@ -104,13 +106,34 @@ push_inside-push_value-requires g t c κs within =
     (omega (arith, same, here), within)
 
 pub push_value-push_object-requires : goal.push_value-push_object-requires
-push_value-push_object-requires g t c κs within = ?
+push_value-push_object-requires g t c κs within =
+    let same = ap (weight (g.C.Contents.content c.args.cells.now) c.args.left) c.in-Object.is
+    ∙ weight-Object (g.C.Contents.content c.args.cells.now) c.args.left c.in-Object.class
+    c.in-Object.ident c.in-Object.fields in
+    let here = ap (λ (xs : List Value). total (map (weight (g.C.Contents.content c.args.cells.now) c.args.left) xs))
+    (c.as_slice-in-Object.ensures ∙ c.get-in-Object.ensures.exact) in
+    (omega (arith, same, here), within)
 
 pub push_value-push_set-requires : goal.push_value-push_set-requires
-push_value-push_set-requires g t c κs within = ?
+push_value-push_set-requires g t c κs within =
+    let same = ap (weight (g.C.Contents.content c.args.cells.now) c.args.left) c.in-Set.is
+    ∙ weight-Set (g.C.Contents.content c.args.cells.now) c.args.left c.in-Set.elements in
+    let here = ap (λ (xs : List Value). total (map (weight (g.C.Contents.content c.args.cells.now) c.args.left) xs))
+    (c.as_slice-in-Set.ensures ∙ c.get-in-Set.ensures.exact) in
+    (omega (arith, same, here), within)
 
 pub push_value-push_map-requires : goal.push_value-push_map-requires
-push_value-push_map-requires g t c κs within = ?
+push_value-push_map-requires g t c κs within =
+    let same = ap (weight (g.C.Contents.content c.args.cells.now) c.args.left) c.in-Map.is
+    ∙ weight-Map (g.C.Contents.content c.args.cells.now) c.args.left c.in-Map.entries in
+    let here = ap (λ (xs : List (MapKeyVal × Value)). total (map (λ e. weight (g.C.Contents.content c.args.cells.now) c.args.left e.1) xs))
+    (c.as_slice-in-Map.ensures ∙ c.get-in-Map.ensures.exact) in
+    (omega (arith, same, here), within)
 
 pub push_value-push_kept-requires : goal.push_value-push_kept-requires
-push_value-push_kept-requires g t c κs within = ?
+push_value-push_kept-requires g t c κs within =
+    let same = ap (weight (g.C.Contents.content c.args.cells.now) c.args.left) c.in-Outcome.is
+    ∙ weight-Outcome (g.C.Contents.content c.args.cells.now) c.args.left c.in-Outcome.kept in
+    let here = ap (kept_weight (g.C.Contents.content c.args.cells.now) c.args.left)
+    c.get-in-Outcome.ensures.exact in
+    (omega (arith, same, here), within)
