@@ -1,7 +1,7 @@
 -- Where an object holds the content of each cell that a value comes to, what is printed by looking
 -- cells up one by one is the text of the whole value.
 use Rattle.std.proofs.Common.{◌≡◌, ℕ, zero, suc, ◌+◌, ◌<◌, List, [], ◌∷◌, ◌++◌, length, map, Option, Some, None, option_map, option_and_then, Contains, codes, refl, sym, ap, subst, ◌∙◌, arith}
-use Rattle.std.specs.Prelude.{ℤ, IsSome}
+use Rattle.std.specs.Prelude.{unwrap_or}
 use Rattle.dg_lex.specs.Bytes.{Bytes}
 use Rattle.dg_types.specs.declared.key.MapKeyVal.{MapKeyVal}
 use Rattle.dg_decl.specs.declared.document.Doc.{Doc}
@@ -74,11 +74,7 @@ whole_kept_rolled doc times l =
 -- ---- options
 
 some_same : {A : Type 0} (a b : A) → Some a ≡ Some b → a ≡ b
-some_same a b e = ap from e
-  where
-    from : Option A → A
-    from None = a
-    from (Some x) = x
+some_same a b e = ap (λ (o : Option _). unwrap_or o a) e
 
 -- what a value was made of
 made_of : {A B : Type 0} (f : A → B) (o : Option A) (b : B) → option_map f o ≡ Some b
@@ -104,7 +100,7 @@ every_of : (R : Cell → Type 0) (cs : List Cell) → ((c : Cell) → Contains c
 every_of R [] each = tt
 every_of R (c ∷ cs) each = (
   each c (0, omega arith, refl),
-  every_of R cs (λ d at. each d (suc at.0, omega (arith, at.1.0), at.1.1)),
+  every_of R cs (λ d at. each d (suc at.0, omega (arith, at.1), at.2)),
 )
 
 -- ---- one pass
@@ -154,8 +150,8 @@ module _ (doc : Doc) (content : Content) (times : ℕ) (R : Cell → Type 0)
       by below (Some w) is e =
           let more = made_of (λ more. w ∷ more) (all_some (map (whole doc (suc times)) (map (λ q. q.0) ps))) ws e in
           let here = p.1 w is (every_left R (cells_in p.0) (joined (map cells_in (map (λ q. q.0) ps))) all) in
-          let rest = below more.0 more.1.0 (every_right R (cells_in p.0) (joined (map cells_in (map (λ q. q.0) ps))) all) in
-          (λ i. here i ∷ rest i) ∙ ap (map (value_text doc)) more.1.1
+          let rest = below more.0 more.1 (every_right R (cells_in p.0) (joined (map cells_in (map (λ q. q.0) ps))) all) in
+          (λ i. here i ∷ rest i) ∙ ap (map (value_text doc)) more.2
 
   abbrev bare_entries : List (MapKeyVal × Part) → List (MapKeyVal × Value)
   bare_entries es = map (λ e. (e.0, e.1.0)) es
@@ -164,7 +160,7 @@ module _ (doc : Doc) (content : Content) (times : ℕ) (R : Cell → Type 0)
   texts es f = map entry_text (map (λ e. (e.0, f e.1)) es)
 
   abbrev entry_cells : List (MapKeyVal × Value) → List Cell
-  entry_cells es = joined (map (λ e. e.1) (map (λ e. (e.0, cells_in e.1)) es))
+  entry_cells es = joined (map (λ (e : MapKeyVal × List Cell). e.1) (map (λ e. (e.0, cells_in e.1)) es))
 
   abbrev whole_entries : List (MapKeyVal × Value) → List (Option (MapKeyVal × Value))
   whole_entries es = map value_some (map (λ e. (e.0, whole doc (suc times) e.1)) es)
@@ -188,9 +184,9 @@ module _ (doc : Doc) (content : Content) (times : ℕ) (R : Cell → Type 0)
       by below (Some w) is e =
           let more = made_of (λ more. (p.0, w) ∷ more) (all_some (whole_entries (bare_entries ps))) ws e in
           let here = p.1.1 w is (every_left R (cells_in p.1.0) (entry_cells (bare_entries ps)) all) in
-          let rest = below more.0 more.1.0 (every_right R (cells_in p.1.0) (entry_cells (bare_entries ps)) all) in
+          let rest = below more.0 more.1 (every_right R (cells_in p.1.0) (entry_cells (bare_entries ps)) all) in
           (λ i. entry_text (p.0, here i) ∷ rest i)
-          ∙ ap (λ (xs : List (MapKeyVal × Value)). texts xs (value_text doc)) more.1.1
+          ∙ ap (λ (xs : List (MapKeyVal × Value)). texts xs (value_text doc)) more.2
 
   -- a value of a form, whose parts are shown
   layer_shown : (y : Value-F KeptPart Part) (w : Value)
@@ -207,23 +203,23 @@ module _ (doc : Doc) (content : Content) (times : ℕ) (R : Cell → Type 0)
       ∙ ap (value_text doc) (some_same (value.Int n) w e)
   layer_shown (Value-F.Object class ident ps) w e all =
       let made = made_of (value.Object class ident) (all_some (map (whole doc (suc times)) (map (λ p. p.0) ps))) w e in
-      ap (object_text doc class ident) (members_shown ps made.0 made.1.0 all)
+      ap (object_text doc class ident) (members_shown ps made.0 made.1 all)
       ∙ text_form doc (Value-F.Object class ident made.0) (value.Object class ident made.0)
       (value.rolls-Object class ident made.0)
-      ∙ ap (value_text doc) made.1.1
+      ∙ ap (value_text doc) made.2
   layer_shown (Value-F.Held i k) w e all = held i k w e all.0
   layer_shown (Value-F.Set ps) w e all =
       let made = made_of value.Set (all_some (map (whole doc (suc times)) (map (λ p. p.0) ps))) w e in
       ap (λ (xs : List Printing). between (codes "[") (listed xs) (codes "]"))
-      (members_shown ps made.0 made.1.0 all)
+      (members_shown ps made.0 made.1 all)
       ∙ text_form doc (Value-F.Set made.0) (value.Set made.0) (value.rolls-Set made.0)
-      ∙ ap (value_text doc) made.1.1
+      ∙ ap (value_text doc) made.2
   layer_shown (Value-F.Map es) w e all =
       let made = made_of value.Map (all_some (whole_entries (bare_entries es))) w e in
       ap (λ (xs : List Printing). between (codes "{") (listed xs) (codes "}"))
-      (entries_shown es made.0 made.1.0 all)
+      (entries_shown es made.0 made.1 all)
       ∙ text_form doc (Value-F.Map made.0) (value.Map made.0) (value.rolls-Map made.0)
-      ∙ ap (value_text doc) made.1.1
+      ∙ ap (value_text doc) made.2
   layer_shown (Value-F.Provider i k) w e all =
       text_form doc (Value-F.Provider i k) (value.Provider i k) (value.rolls-Provider i k)
       ∙ ap (value_text doc) (some_same (value.Provider i k) w e)
@@ -248,9 +244,9 @@ module _ (doc : Doc) (content : Content) (times : ℕ) (R : Cell → Type 0)
           ∙ ap (value_text doc) (some_same (value.Opt (Some u)) w e)
   layer_shown (Value-F.Outcome p) w e all =
       let made = made_of value.Outcome (whole_kept doc times p.0) w e in
-      p.1 made.0 made.1.0 all
+      p.1 made.0 made.1 all
       ∙ text_form doc (Value-F.Outcome made.0) (value.Outcome made.0) (value.rolls-Outcome made.0)
-      ∙ ap (value_text doc) made.1.1
+      ∙ ap (value_text doc) made.2
 
   value_shown : (y : Value-F KeptPart Part) → IsShown (roll-Value (bare y))
   value_shown y w e all =
@@ -264,9 +260,9 @@ module _ (doc : Doc) (content : Content) (times : ℕ) (R : Cell → Type 0)
       sym (whole_kept_rolled doc times (Kept-F.Value p.0)) ∙ e in
       let made = made_of kept.Value (whole doc (suc times) p.0) w there in
       ap (kept_by (shown doc content times)) (kept.rolls-Value p.0)
-      ∙ p.1 made.0 made.1.0 (subst (Every R) (kept_cells_rolled (Kept-F.Value p.0)) all)
+      ∙ p.1 made.0 made.1 (subst (Every R) (kept_cells_rolled (Kept-F.Value p.0)) all)
       ∙ sym (kept_text_rolled doc (Kept-F.Value made.0))
-      ∙ ap (kept_text doc) (kept.rolls-Value made.0 ∙ made.1.1)
+      ∙ ap (kept_text doc) (kept.rolls-Value made.0 ∙ made.2)
   kept_shown (Kept-F.Failed f) w e all =
       ap (kept_by (shown doc content times)) (kept.rolls-Failed f)
       ∙ sym (kept_text_rolled doc (Kept-F.Failed f))

@@ -1,5 +1,4 @@
 pub mod HeldLemmas
-pub mod LoopLemmas
 pub mod OutputLemmas
 pub mod PlaceLemmas
 pub mod ReplyLemmas

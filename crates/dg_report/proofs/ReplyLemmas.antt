@@ -119,6 +119,11 @@ reply-Absent doc o = followed_text o (codes "absent")
 
 pub ruleset reply_forms = (reply-Failed, reply-Absent)
 
+two_texts : (o : Output) (s t : Bytes) → with_text (with_text o s) t ≡ with_text o (s ++ t)
+unfolding with_text
+two_texts o s t =
+    λ i. record { text = append_assoc o.text s t i; seen = o.seen; before = o.before }
+
 pub line_made : (doc : Doc) (number : ℕ) (r : Reply) (old a b c new : Output)
     → a ≡ with_text old (decimal number) → b ≡ with_text a (codes " ")
     → c ≡ followed b (reply_text doc r) → new ≡ with_text c (line_end ∷ [])
@@ -127,9 +132,6 @@ unfolding reply_line
 line_made doc number r old a b c new ea eb ec en =
     en ∙ ap (λ (o : Output). with_text o (line_end ∷ [])) (ec
     ∙ ap (λ (o : Output). followed o (reply_text doc r)) (eb
-    ∙ ap (λ (o : Output). with_text o (codes " ")) ea ∙ two_texts))
+    ∙ ap (λ (o : Output). with_text o (codes " ")) ea
+    ∙ two_texts old (decimal number) (codes " ")))
     ∙ sym (followed_between old (decimal number ++ codes " ") (reply_text doc r) (line_end ∷ []))
-  where
-    two_texts : with_text (with_text old (decimal number)) (codes " ") ≡ with_text old (decimal number ++ codes " ")
-    unfolding with_text
-    two_texts = λ i. record { text = append_assoc old.text (decimal number) (codes " ") i; seen = old.seen; before = old.before }

@@ -137,7 +137,6 @@ fn default_field(index: usize) -> Option<&'static [u8]>
 
 impl<'a> ClassNames<'a> {
     /// From the names that a document declares. Time and memory grow with its items.
-    #[tactic(auto, unfolding(dg_slots::specs::Numbered::class_lines))]
     pub fn of(alloc: Global, names: &Names<'a>) -> Result<ClassNames<'a>, NoMemory>
         ensures exact { IfOk result (λ classes. classes ≡ names.now) }
     {
