@@ -3,8 +3,8 @@ use Rattle.dg_report.specs.Output.{with_cut}
 use Rattle.dg_report.proofs.ReplyLemmas.{value_line, value_longer}
 use Rattle.dg_report.proofs.replies.push_cut.Goals as goal
 
-pub cut_behind-requires-clause-within : goal.cut_behind-requires-clause-within
-cut_behind-requires-clause-within g c =
+pub cut_behind-requires : goal.cut_behind-requires
+cut_behind-requires g c =
     value_longer c.args.names.now (g.C.Contents.content c.args.cells.now) 128 c.len-start.result
     c.args.v.now c.args.out.now c.push_value.new.out c.len-start.ensures.exact
     c.in_ok-push_value.ensures.exact
