@@ -4,10 +4,11 @@ use Rattle.dg_report.proofs.ReplyLemmas.{value_line, value_longer}
 use Rattle.dg_report.proofs.replies.push_cut.Goals as goal
 
 pub cut_behind-requires : goal.cut_behind-requires
-cut_behind-requires g c =
-    value_longer c.args.names.now (g.C.Contents.content c.args.cells.now) 128 c.len-start.result
-    c.args.v.now c.args.out.now c.push_value.new.out c.len-start.ensures.exact
-    c.in_ok-push_value.ensures.exact
+cut_behind-requires g c = record {
+  within = value_longer c.args.names.now (g.C.Contents.content c.args.cells.now) 128
+      c.len-start.result c.args.v.now c.args.out.now c.push_value.new.out
+      c.len-start.ensures.exact c.in_ok-push_value.ensures.exact;
+}
 
 pub returns-clause-exact : goal.returns-clause-exact
 returns-clause-exact g c =
