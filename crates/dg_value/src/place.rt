@@ -6,10 +6,11 @@ ghost use Rattle.dg_value.specs.Places as spec;
 use dg_types::NoMemory;
 use smallvec::SmallVec;
 use std::alloc::Global;
+use std::hash::{Hash, Hasher};
 use std::marker::Model;
 
 /// Where the evaluation of a place begins.
-#[derive(Clone, Copy, Debug, PartialEq, Eq)]
+#[derive(Clone, Copy, Debug, PartialEq, Eq, Hash)]
 pub enum PlaceRoot {
     /// The ask of this number, counted from 1.
     Ask(u32),
@@ -20,7 +21,7 @@ pub enum PlaceRoot {
 }
 
 /// A step from the place of a whole to that of a part.
-#[derive(Clone, Copy, Debug, Default, PartialEq, Eq)]
+#[derive(Clone, Copy, Debug, Default, PartialEq, Eq, Hash)]
 pub enum PlaceStep {
     /// A parameter, counted from 1; the one request of an entry point or of an exposed entry is 1.
     Arg(u32),
@@ -62,8 +63,45 @@ impl Steps {
     }
 }
 
+impl PartialEq for Steps {
+    ghost use Rattle.std.specs.Cmp as Cmp;
+    ghost use Rattle.std.specs.Cmp.Lexicographic.{lists_equiv, pointwise};
+    ghost use Rattle.dg_value.specs.contracts.place.PlaceStepPartialEq.TheImpl as of_steps;
+    ghost use Rattle.dg_value.specs.contracts.place.PlaceStepEq.TheImpl.Laws as step_laws;
+
+    ghost eq = { pointwise of_steps.ghosts.eq };
+
+    ghost laws = { Cmp.partial_equiv_from_equiv (lists_equiv step_laws.laws-law) };
+
+    fn eq(&self, other: &Steps) -> bool {
+        self.steps.as_slice() == other.steps.as_slice()
+    }
+}
+
+impl Eq for Steps {
+    ghost use Rattle.std.specs.Cmp.Lexicographic.{lists_equiv};
+    ghost use Rattle.dg_value.specs.contracts.place.PlaceStepEq.TheImpl.Laws as step_laws;
+
+    ghost laws = { lists_equiv step_laws.laws-law };
+}
+
+impl Hash for Steps {
+    ghost use Rattle.std.specs.Hash as fed;
+    ghost use Rattle.std.specs.Hash.{items_Alike};
+    ghost use Rattle.dg_value.specs.contracts.place.PlaceStepHash.TheImpl as of_steps;
+    ghost use Rattle.dg_value.specs.contracts.place.PlaceStepHash.TheImpl.Laws as step_laws;
+
+    ghost hash_input = { fed.slice of_steps.ghosts.hash_input };
+
+    ghost respects_eq = { (items_Alike (record { fed = step_laws.respects_eq-law })).fed };
+
+    fn hash<H: Hasher>(&self, state: &mut H) {
+        self.steps.as_slice().hash(state);
+    }
+}
+
 /// A place: where its evaluation begins, and the steps from there.
-#[derive(Drop)]
+#[derive(Drop, PartialEq, Eq, Hash)]
 pub struct Place {
     pub root: PlaceRoot,
     pub steps: Steps,
