@@ -26,6 +26,7 @@ pub struct ClassNames<'a> {
 }
 
 impl<'a> Model for ClassNames<'a> {
+    ghost use Rattle.std.specs.Prelude.{◌≡◌};
     ghost use Rattle.std.specs.Coded.{codes};
     ghost use Rattle.dg_decl.specs.contracts.expression.Expr as expr;
     ghost use Rattle.dg_decl.specs.contracts.expression.Tree as tree;
