@@ -1,0 +1,5 @@
+pub mod HeldLemmas
+pub mod OutputLemmas
+pub mod PlaceLemmas
+pub mod ReplyLemmas
+pub mod ShownLemmas
