@@ -1,12 +1,10 @@
 -- Where an object holds the content of each cell that a value comes to, what is printed by looking
 -- cells up one by one is the text of the whole value.
-use Rattle.std.proofs.Common.{◌≡◌, ℕ, zero, suc, ◌+◌, ◌<◌, List, [], ◌∷◌, ◌++◌, length, map, Option, Some, None, option_map, option_and_then, Contains, codes, refl, sym, ap, subst, ◌∙◌, arith}
+use Rattle.std.proofs.Common.{◌≡◌, ℕ, zero, suc, List, [], ◌∷◌, ◌++◌, map, Option, Some, None, option_map, option_and_then, Contains, codes, refl, sym, ap, subst, ◌∙◌, arith}
 use Rattle.std.specs.Prelude.{unwrap_or}
-use Rattle.dg_lex.specs.Bytes.{Bytes}
 use Rattle.dg_types.specs.declared.key.MapKeyVal.{MapKeyVal}
 use Rattle.dg_decl.specs.declared.document.Doc.{Doc}
-use Rattle.dg_decl.specs.Walks.{IsReached, root, step}
-use Rattle.dg_value.specs.declared.place.Place.{Place}
+use Rattle.dg_decl.specs.Walks.{root, step}
 use Rattle.dg_value.specs.declared.value.Kept.{Kept, fold-Kept}
 use Rattle.dg_value.specs.declared.value.Kept.TheVariants as kept
 use Rattle.dg_value.specs.declared.value.Kept.TheOpen.{Kept-F, Value-F}
@@ -15,8 +13,8 @@ use Rattle.dg_value.specs.declared.value.Kept.TheFolds.{ind-Value, map-Kept, map
 use Rattle.dg_value.specs.declared.value.Value.{Value}
 use Rattle.dg_value.specs.declared.value.Value.TheVariants as value
 use Rattle.dg_eval.specs.Meaning.{content_of}
-use Rattle.dg_eval.specs.Report.{Printing, as_it_is, between, listed, entry_text, object_text, inside_text, kept_text_at, text_at, value_text, all_some, value_some, inside_some, value_of_run, whole_at, whole_kept_at, whole}
-use Rattle.dg_report.specs.Held.{Cell, Content, joined, cells_at, kept_cells_at, cells_in, cells_behind, ComesTo, HoldsAll}
+use Rattle.dg_eval.specs.Report.{Printing, between, listed, entry_text, object_text, inside_text, kept_text_at, text_at, value_text, all_some, value_some, inside_some, value_of_run, whole_at, whole_kept_at, whole}
+use Rattle.dg_report.specs.Held.{Cell, Content, joined, cells_at, kept_cells_at, cells_in, ComesTo, HoldsAll}
 use Rattle.dg_report.specs.Shown.{shown_at, kept_by, shown, cell_shown}
 use Rattle.dg_report.proofs.ShownLemmas.{Layer, parts, rolled}
 

@@ -1,14 +1,13 @@
 -- Texts that are appended one behind another.
-use Rattle.std.proofs.Common.{◌≡◌, ℕ, zero, suc, ◌+◌, Bool, true, false, List, [], ◌∷◌, ◌++◌, length, map, drop, Option, Some, None, slice_get, is_some, codes, decimal, refl, sym, ap, ◌∙◌, append-nil, append_assoc}
-use Rattle.std.specs.Option.{option_map_or}
+use Rattle.std.proofs.Common.{◌≡◌, ℕ, zero, suc, Bool, true, false, List, [], ◌∷◌, ◌++◌, length, map, drop, Option, Some, None, slice_get, codes, decimal, refl, sym, ap, ◌∙◌, append-nil, append_assoc}
 use Rattle.dg_lex.specs.Bytes.{Bytes}
 use Rattle.dg_types.specs.declared.key.MapKeyVal.{MapKeyVal}
 use Rattle.dg_types.specs.Texts.{map_key_text}
 use Rattle.dg_decl.specs.declared.document.Doc.{Doc}
 use Rattle.dg_decl.specs.declared.item.Param.{Param}
 use Rattle.dg_value.specs.declared.place.Place.{Place}
-use Rattle.dg_eval.specs.Report.{Printing, Printed, printed, as_it_is, behind, between, listed, field_text, fields_text, entry_text, object_text, seen_at, value_class_name, value_fields}
-use Rattle.dg_report.specs.Output.{Output, followed, with_text, with_comma, with_members, with_set, with_map, with_entry, is_new, noted, with_number, with_field_name, with_fields, with_object}
+use Rattle.dg_eval.specs.Report.{Printing, Printed, as_it_is, behind, between, listed, field_text, fields_text, entry_text, object_text, seen_at, value_class_name, value_fields}
+use Rattle.dg_report.specs.Output.{Output, followed, with_text, with_members, with_set, with_map, with_entry, is_new, noted, with_number, with_fields, with_object}
 
 abbrev output : Bytes → List Place → List Place → Output
 output t s b = record { text = t; seen = s; before = b }

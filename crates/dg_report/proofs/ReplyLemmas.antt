@@ -1,5 +1,5 @@
 -- The line of a reply, from its parts.
-use Rattle.std.proofs.Common.{◌≡◌, ℕ, zero, suc, List, [], ◌∷◌, ◌++◌, length, map, take, drop, Option, Some, None, option_map, slice_get, codes, decimal, refl, sym, ap, ◌∙◌, ◌≤◌, append_assoc, length-append, arith}
+use Rattle.std.proofs.Common.{◌≡◌, ℕ, zero, suc, List, [], ◌∷◌, ◌++◌, length, map, Option, Some, None, option_map, slice_get, codes, decimal, refl, sym, ap, ◌∙◌, ◌≤◌, append_assoc, length-append, arith}
 use Rattle.std.specs.Prelude.{IsSome}
 use Rattle.std.specs.Option.{option_map_or}
 use Rattle.dg_lex.specs.Bytes.{Bytes, line_end}
@@ -10,15 +10,13 @@ use Rattle.dg_decl.specs.Graph.{node_text, nodes}
 use Rattle.dg_slots.specs.declared.plan.Plan.{Plan}
 use Rattle.dg_slots.specs.declared.plan.Slot.{Slot}
 use Rattle.dg_slots.specs.Plans.{plan_of, slots_of, slot_of}
-use Rattle.dg_value.specs.declared.place.Place.{Place}
 use Rattle.dg_value.specs.declared.value.Failure.{Failure}
-use Rattle.dg_value.specs.declared.value.Kept.{Kept}
 use Rattle.dg_value.specs.declared.value.Reply.{Reply}
 use Rattle.dg_value.specs.declared.value.Reply.TheVariants as reply
 use Rattle.dg_value.specs.declared.value.Value.{Value}
 use Rattle.dg_eval.specs.Meaning.{node_at, enough}
-use Rattle.dg_eval.specs.Report.{Printing, Printed, printed, as_it_is, between, cut, cut_text, value_text, whole, failure_text, reply_text, reply_line}
-use Rattle.dg_report.specs.Held.{Content, HoldsAll, HoldsReply}
+use Rattle.dg_eval.specs.Report.{Printing, Printed, cut_text, value_text, whole, failure_text, reply_text, reply_line}
+use Rattle.dg_report.specs.Held.{Content, HoldsReply}
 use Rattle.dg_report.specs.Output.{Output, followed, with_text, with_cut}
 use Rattle.dg_report.specs.Shown.{shown, with_value}
 use Rattle.dg_report.proofs.HeldLemmas.{shown_whole}

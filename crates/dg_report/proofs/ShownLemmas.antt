@@ -1,5 +1,5 @@
 -- What is appended for a value, form by form, and how much is walked through.
-use Rattle.std.proofs.Common.{◌≡◌, ℕ, zero, suc, ◌+◌, ◌-◌, ◌<◌, ◌≤◌, Bool, true, false, ◌==◌, List, [], ◌∷◌, ◌++◌, length, get_or, map, Option, Some, None, option_map, codes, refl, sym, ap, ◌∙◌, arith}
+use Rattle.std.proofs.Common.{◌≡◌, ℕ, zero, suc, ◌+◌, ◌-◌, ◌<◌, List, [], ◌∷◌, length, get_or, map, Option, Some, None, option_map, codes, refl, sym, ap, ◌∙◌, arith}
 use Rattle.std.specs.Prelude.{ℤ}
 use Rattle.std.specs.Fmt.{signed_decimal}
 use Rattle.dg_lex.specs.Bytes.{Bytes}
@@ -11,11 +11,11 @@ use Rattle.dg_value.specs.declared.value.Failure.{Failure}
 use Rattle.dg_value.specs.declared.value.Kept.{Kept, fold-Kept}
 use Rattle.dg_value.specs.declared.value.Kept.TheVariants as kept
 use Rattle.dg_value.specs.declared.value.Kept.TheOpen.{Kept-F, Value-F}
-use Rattle.dg_value.specs.declared.value.Kept.TheViews.{roll-Kept, roll-Value}
-use Rattle.dg_value.specs.declared.value.Kept.TheFolds.{map-Kept, map-Value, fold-roll-Kept, fold-roll-Value}
+use Rattle.dg_value.specs.declared.value.Kept.TheViews.{roll-Value}
+use Rattle.dg_value.specs.declared.value.Kept.TheFolds.{map-Value, fold-roll-Kept, fold-roll-Value}
 use Rattle.dg_value.specs.declared.value.Value.{Value}
 use Rattle.dg_value.specs.declared.value.Value.TheVariants as value
-use Rattle.dg_eval.specs.Report.{Printing, as_it_is, behind, between, listed, entry_text, object_text, kept_text_at, value_fields}
+use Rattle.dg_eval.specs.Report.{Printing, kept_text_at, value_fields}
 use Rattle.dg_report.specs.Held.{Content}
 use Rattle.dg_report.specs.Output.{Output, followed, with_text, with_set, with_map, with_inside, with_fields, with_object}
 use Rattle.dg_report.specs.Shown.{shown_at, shown_by, kept_by, shown, cell_shown, with_value, with_kept, with_cell, total, inside_weight, weight_at, kept_weight_at, weight_by, kept_weight_by, weight, cell_weight, kept_weight}

@@ -1,5 +1,5 @@
 -- When an object holds the content of each cell that a reply comes to.
-use Rattle.std.specs.Prelude.{◌≡◌, ℕ, suc, List, [], ◌∷◌, ◌++◌, map, Option, Some, None, IsSome}
+use Rattle.std.specs.Prelude.{◌≡◌, ℕ, suc, List, [], ◌∷◌, ◌++◌, map, Option, Some, IsSome}
 use Rattle.std.specs.Option.{option_map_or}
 use Rattle.dg_decl.specs.declared.document.Doc.{Doc}
 use Rattle.dg_decl.specs.Walks.{IsReached}
@@ -55,8 +55,8 @@ pub record HoldsAll (doc : Doc) (content : Content) (v : Value) : Type 0 where
   pub held : (i k : ℕ) (w : Value) → ComesTo doc v (i, k)
       → value_of_run (content_of doc i k) ≡ Some w → content i k ≡ Some (kept.Value w)
 
--- the value of a reply is there through the cells to which it comes, and an object holds them; other
--- replies come to none
+-- the value of a reply is there through the cells to which it comes, and an object holds them;
+-- other replies come to none
 abbrev pub HoldsReply : Doc → Content → Reply → Type 0
 HoldsReply doc content (reply.Value v) =
     IsSome (whole doc (suc enough) v) × HoldsAll doc content v

@@ -7,7 +7,7 @@ use Rattle.dg_types.specs.Texts.{map_key_text}
 use Rattle.dg_decl.specs.declared.document.Doc.{Doc}
 use Rattle.dg_decl.specs.declared.item.Param.{Param}
 use Rattle.dg_value.specs.declared.place.Place.{Place}
-use Rattle.dg_eval.specs.Report.{Printing, cut, seen_at, value_class_name, value_fields}
+use Rattle.dg_eval.specs.Report.{Printing, cut, seen_at, value_class_name}
 
 -- a text, the identities of the objects that appeared before its end, and how many of them appeared
 -- before the line of the text

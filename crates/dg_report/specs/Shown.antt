@@ -28,7 +28,8 @@ kept_by shown (kept.Failed f) = as_it_is (quoted f.message)
 unfoldable pub shown : Doc → Content → ℕ → Value → Printing
 shown doc content zero = shown_by doc (λ i k. as_it_is [])
 shown doc content (suc times) =
-    shown_by doc (λ i k. option_map_or (kept_by (shown doc content times)) (content i k) (as_it_is []))
+    shown_by doc
+    (λ i k. option_map_or (kept_by (shown doc content times)) (content i k) (as_it_is []))
 
 -- what is printed of a cell
 unfoldable pub cell_shown : Doc → Content → ℕ → ℕ → ℕ → Printing

@@ -16,8 +16,8 @@ use std::marker::Model;
 /// How many of the classes are those of the values that Hilt's components have bound.
 const DEFAULT_COUNT: u32 = 6;
 
-/// The names of the classes of a document and of their fields, by the number of the class. Contracts
-/// see the document. To look one up takes the same time in any document.
+/// The names of the classes of a document and of their fields, by the number of the class.
+/// Contracts see the document. To look one up takes the same time in any document.
 #[derive(Drop)]
 pub struct ClassNames<'a> {
     doc: &'a Doc,
@@ -95,7 +95,8 @@ fn default_name(class: u32) -> &'static [u8]
 /// The name that a line declares.
 fn name_in<'s>(lines: &'s [Statement<'_>], place: u32) -> &'s [u8]
     ensures exact { result.now ≡ option_map_or
-        (λ s. option_map_or (λ n. n) (declared.outer_name s.item) []) (slice_get lines.now place) [] }
+        (λ s. option_map_or (λ n. n) (declared.outer_name s.item) [])
+        (slice_get lines.now place) [] }
 {
     match lines.get(place as usize) {
         Some(s) => match s.item.outer_name() {

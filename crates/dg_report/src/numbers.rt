@@ -8,8 +8,8 @@ use std::alloc::Global;
 use std::marker::Model;
 
 /// The objects that appeared in the replies so far, in order: the number of an object is its place
-/// among them, counted from 1. Contracts see the list of their identities. To find one takes the time
-/// of hashing its identity, as a rule.
+/// among them, counted from 1. Contracts see the list of their identities. To find one takes the
+/// time of hashing its identity, as a rule.
 #[derive(Drop)]
 pub struct Numbers {
     pub(crate) places: IndexSet<Place>,

@@ -114,9 +114,9 @@ fn push_line<C: Contents>(
     Ok(())
 }
 
-/// The line of the reply to the ask of this number, counted from 1, behind the replies whose objects
-/// are `n`. Objects that appear in it are in `n` afterwards, also those of the part of a long value
-/// that is cut off. After NoMemory `n` is as before.
+/// The line of the reply to the ask of this number, counted from 1, behind the replies whose
+/// objects are `n`. Objects that appear in it are in `n` afterwards, also those of the part of a
+/// long value that is cut off. After NoMemory `n` is as before.
 pub fn reply_text<C: Contents>(
     alloc: Global,
     n: &mut Numbers,

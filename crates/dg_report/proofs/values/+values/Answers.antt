@@ -1,4 +1,4 @@
-use Rattle.std.proofs.Common.{◌≡◌, ℕ, List, ◌-◌, ◌<◌, ◌+◌, OnOk, sym, ap, subst, ◌∙◌, arith, map, option_map}
+use Rattle.std.proofs.Common.{◌≡◌, List, OnOk, sym, ap, subst, ◌∙◌, arith, map, option_map}
 use Rattle.dg_types.specs.declared.key.MapKeyVal.{MapKeyVal}
 use Rattle.dg_value.specs.declared.value.Value.{Value}
 use Rattle.dg_eval.specs.Report.{value_fields}
