@@ -56,10 +56,7 @@ fn is_class(item: &Item) -> bool
 }
 
 /// Those of some statements that are `class` lines, in order.
-fn lines_of<'a>(
-    alloc: Global,
-    statements: &[Statement<'a>],
-) -> Result<Vec<Statement<'a>>, NoMemory>
+fn lines_of<'a>(alloc: Global, statements: &[Statement<'a>]) -> Result<Vec<Statement<'a>>, NoMemory>
     ensures exact { IfOk result (λ lines. lines.items
         ≡ filter (λ s. declared.is_class s.item) statements.now) }
 {
