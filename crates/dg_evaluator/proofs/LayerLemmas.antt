@@ -23,7 +23,7 @@ use Rattle.dg_evaluator.specs.declared.stop.Stop.TheVariants as stop
 use Rattle.dg_evaluator.specs.Scopes.{Scope, IsClosed, IsFit, content_at, IsContent, AllUsed, Exactly, Told, Asks, Answers}
 use Rattle.dg_evaluator.specs.Results.{MayAsk, CanRun, Gave, AskedFor, Ran, result_of, held_of, held_at}
 use Rattle.dg_evaluator.specs.Contexts.{IsContextOf}
-use Rattle.dg_evaluator.proofs.RanLemmas.{can_as}
+use Rattle.dg_evaluator.proofs.RanLemmas.{can_as, can_rest, ran_as, ran_plain, ran_stops, ran_then}
 
 -- ---- runs that ask for one cell or Lazy
 
@@ -334,3 +334,50 @@ look_held f (suc times) v p e le =
     look_held_at (λ i k. and_then (asking (cell i k) (content f i k)) (look f times)) v
     (out-Value v) p e
     ∙ ap (λ n. and_then (asking (cell p.0 p.1) (content f p.0 p.1)) (look f n)) one
+
+pub look_can : (s : Scope) (f : Eval) (times : ℕ) (v : Value) (p : ℕ × ℕ)
+    → (a b : Option (List Asked)) (w : Value) → Some p ≡ held_at (out-Value v)
+    → CanRun s (look f times v) → Ran s (asking (cell p.0 p.1) (content f p.0 p.1)) a b (Ok w)
+    → CanRun s (look f (times - 1) w)
+look_can s f times v p a b w e h k =
+    let here = look_held f times v p (sym e) (look_deep s f times v p (sym e) h) in
+    can_rest s (asking (cell p.0 p.1) (content f p.0 p.1)) (look f (times - 1)) w
+    (can_as s (look f times v) _ here h) k.gave
+
+look_stops : (s : Scope) (f : Eval) (times : ℕ) (v : Value) (p : ℕ × ℕ)
+    → (a b : Option (List Asked)) (e : Stop) → Some p ≡ held_at (out-Value v)
+    → CanRun s (look f times v) → Ran s (asking (cell p.0 p.1) (content f p.0 p.1)) a b (Err e)
+    → Ran s (look f times v) a b (Err e)
+look_stops s f times v p a b e is h k =
+    let here = look_held f times v p (sym is) (look_deep s f times v p (sym is) h) in
+    let r = asking (cell p.0 p.1) (content f p.0 p.1) in
+    ran_as s (and_then r (look f (times - 1))) (look f times v) a b (Err e) (sym here)
+    (ran_stops s r (look f (times - 1)) e a b (can_as s (look f times v) _ here h) k)
+
+pub look_then : (s : Scope) (f : Eval) (times : ℕ) (v : Value) (p : ℕ × ℕ)
+    → (a b d : Option (List Asked)) (w : Value) (result : Result Value Stop)
+    → Some p ≡ held_at (out-Value v) → CanRun s (look f times v)
+    → Ran s (asking (cell p.0 p.1) (content f p.0 p.1)) a b (Ok w)
+    → Ran s (look f (times - 1) w) b d result → Ran s (look f times v) a d result
+look_then s f times v p a b d w result is h k m =
+    let here = look_held f times v p (sym is) (look_deep s f times v p (sym is) h) in
+    let r = asking (cell p.0 p.1) (content f p.0 p.1) in
+    ran_as s (and_then r (look f (times - 1))) (look f times v) a d result (sym here)
+    (ran_then s r (look f (times - 1)) w a b d result (can_as s (look f times v) _ here h) k m)
+
+pub look_here : (s : Scope) (f : Eval) (times : ℕ) (v : Value) (a : Option (List Asked))
+    → None ≡ held_at (out-Value v) → Ran s (look f times v) a a (Ok v)
+look_here s f times v a is =
+    ran_as s (gives v) (look f times v) a a (Ok v) (sym (look_plain f times v (sym is)))
+    (ran_plain s (gives v) a (Ok v) refl refl)
+
+pub look_stopped : (s : Scope) (f : Eval) (times : ℕ) (v : Value) (p : ℕ × ℕ)
+    → (a b : Option (List Asked)) (e d : Stop) (result : Result Value Stop)
+    → Some p ≡ held_at (out-Value v) → CanRun s (look f times v)
+    → Ran s (asking (cell p.0 p.1) (content f p.0 p.1)) a b (Err e) → result ≡ Err d → d ≡ e
+    → Ran s (look f times v) a b result
+look_stopped s f times v p a b e d result is h k gave same =
+    let P : Result Value Stop → Type 0 = λ u. Ran s (look f times v) a b u in
+    let err : Stop → Result Value Stop = λ u. Err u in
+    let to : err e ≡ result = ap err (sym same) ∙ sym gave in
+    subst P to (look_stops s f times v p a b e is h k)

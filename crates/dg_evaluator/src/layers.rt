@@ -152,3 +152,30 @@ pub fn instance<S: InScope, C: Cells, B: Below<C>>(
         below.eval(inst, slot, place, cells)
     }
 }
+
+/// The content behind a value, through at most so many cells.
+pub fn look<S: InScope, C: Cells, B: Below<C>>(
+    alloc: Global,
+    value: Value,
+    times: u32,
+    below: &B,
+    depth: u32,
+    cells: &mut C,
+) -> Result<Value, Stop>
+    requires below { IsBelow C.scope C.asked B.can_eval B.eval_gives below.now S.scope depth }
+    requires deep { depth ≤ 128 }
+    requires closed { IsClosed S.scope }
+    requires same { C.scope cells.old ≡ S.scope }
+    requires can { CanRun S.scope (meaning.look (meaning.eval S.scope.doc depth) times value) }
+    ensures ran { Ran S.scope (meaning.look (meaning.eval S.scope.doc depth) times value) (C.asked cells.old) (C.asked cells.new) result }
+    ensures same { C.scope cells.new ≡ S.scope }
+{
+    match held_cell(&value) {
+        None => Ok(value),
+        Some((inst, slot)) => {
+            drop(value);
+            let behind = content::<S, C, B>(alloc, inst, slot, below, depth, cells)?;
+            look::<S, C, B>(alloc, behind, times - 1, below, depth, cells)
+        }
+    }
+}
