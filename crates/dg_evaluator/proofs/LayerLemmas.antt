@@ -4,6 +4,8 @@ use Rattle.std.proofs.lemmas.Option.{none-some}
 use Rattle.dg_types.specs.declared.memory.NoMemory.{NoMemory}
 use Rattle.dg_decl.specs.declared.document.Doc.{Doc}
 use Rattle.dg_value.specs.declared.place.Place.{Place}
+use Rattle.dg_value.specs.declared.place.PlaceStep.TheVariants as step
+use Rattle.dg_value.specs.Places.{then_step}
 use Rattle.dg_value.specs.declared.value.Failure.{Failure}
 use Rattle.dg_value.specs.declared.value.Kept.{Kept}
 use Rattle.dg_value.specs.declared.value.Kept.TheVariants as kept
@@ -381,3 +383,18 @@ look_stopped s f times v p a b e d result is h k gave same =
     let err : Stop → Result Value Stop = λ u. Err u in
     let to : err e ≡ result = ap err (sym same) ∙ sym gave in
     subst P to (look_stops s f times v p a b e is h k)
+
+-- ---- the inside of a place
+
+pub can_inside : (s : Scope) (f : Eval) (i k : ℕ) (p q : Place) → q ≡ then_step p step.Inside
+    → CanRun s (lazy_content s.doc f i k p) → CanRun s (instance s.doc f i k q)
+can_inside s f i k p q at h =
+    let P : Place → Type 0 = λ u. CanRun s (instance s.doc f i k u) in
+    subst P (sym at) h
+
+pub ran_inside : (s : Scope) (f : Eval) (i k : ℕ) (p q : Place) (a b : Option (List Asked))
+    → (result : Result Value Stop) → q ≡ then_step p step.Inside
+    → Ran s (instance s.doc f i k q) a b result → Ran s (lazy_content s.doc f i k p) a b result
+ran_inside s f i k p q a b result at h =
+    let P : Place → Type 0 = λ u. Ran s (instance s.doc f i k u) a b result in
+    subst P at h

@@ -1,7 +1,7 @@
 //! What stands between slots: contents, instances and looks.
 
 ghost use Rattle.std.specs.Prelude.{◌≡◌, ◌≤◌, [], ◌∷◌};
-ghost use Rattle.dg_eval.specs.Runs.{cell, asking};
+ghost use Rattle.dg_eval.specs.Runs.{cell, lazy as lazy_at, asking};
 ghost use Rattle.dg_eval.specs.Asks.{asked_by};
 ghost use Rattle.dg_eval.specs.Meaning as meaning;
 ghost use Rattle.dg_eval.specs.World.{world_of};
@@ -16,7 +16,7 @@ use crate::parts::held_cell;
 use crate::stop::Stop;
 use dg_slots::Plan;
 use dg_types::NoMemory;
-use dg_value::{Kept, Place, PlaceRoot, Value};
+use dg_value::{Kept, Place, PlaceRoot, PlaceStep, Value};
 use std::alloc::Global;
 
 /// Names the scope that an evaluation leaves as it is throughout.
@@ -178,4 +178,91 @@ pub fn look<S: InScope, C: Cells, B: Below<C>>(
             look::<S, C, B>(alloc, behind, times - 1, below, depth, cells)
         }
     }
+}
+
+/// The content of the Lazy that was made at a place, by the evaluation below.
+#[tactic(auto, using(crate::proofs::RanLemmas::ran_nothing))]
+fn lazy_content<S: InScope, C: Cells, B: Below<C>>(
+    alloc: Global,
+    plan: &Plan,
+    inst: u32,
+    slot: u32,
+    place: &Place,
+    below: &B,
+    depth: u32,
+    cells: &mut C,
+) -> Result<Value, Stop>
+    requires fit { IsFit S.scope plan.now (world_of S.scope.doc) }
+    requires below { IsBelow C.scope C.asked B.can_eval B.eval_gives below.now S.scope depth }
+    requires deep { depth ≤ 128 }
+    requires same { C.scope cells.old ≡ S.scope }
+    requires can { CanRun S.scope (meaning.lazy_content S.scope.doc (meaning.eval S.scope.doc depth) inst slot place.now) }
+    ensures ran { Ran S.scope (meaning.lazy_content S.scope.doc (meaning.eval S.scope.doc depth) inst slot place.now) (C.asked cells.old) (C.asked cells.new) result }
+    ensures same { C.scope cells.new ≡ S.scope }
+{
+    match place.then_step(PlaceStep::Inside) {
+        Ok(inside) => {
+            instance::<S, C, B>(alloc, plan, inst, slot, inside, below, depth, cells)
+        }
+        Err(_) => Err(Stop::NoMemory),
+    }
+}
+
+/// The content of a Lazy as what is kept.
+fn made_lazy<S: InScope, C: Cells, B: Below<C>>(
+    alloc: Global,
+    plan: &Plan,
+    inst: u32,
+    slot: u32,
+    place: &Place,
+    below: &B,
+    depth: u32,
+    cells: &mut C,
+) -> Result<Kept, NoMemory>
+    requires fit { IsFit S.scope plan.now (world_of S.scope.doc) }
+    requires below { IsBelow C.scope C.asked B.can_eval B.eval_gives below.now S.scope depth }
+    requires deep { depth ≤ 128 }
+    requires same { C.scope cells.old ≡ S.scope }
+    requires can { CanRun S.scope (meaning.lazy_content S.scope.doc (meaning.eval S.scope.doc depth) inst slot place.now) }
+    ensures exact { Answers (lazy_at inst slot place.now) (asked_by (C.scope cells.old).doc (lazy_at inst slot place.now)) (C.scope cells.old) (C.scope cells.new) (C.asked cells.old) (C.asked cells.new) result }
+{
+    to_keep(lazy_content::<S, C, B>(
+        alloc, plan, inst, slot, place, below, depth, cells,
+    ))
+}
+
+/// What is inside a Lazy that was made at a place.
+pub fn inside_lazy<S: InScope, C: Cells, B: Below<C>>(
+    alloc: Global,
+    plan: &Plan,
+    inst: u32,
+    slot: u32,
+    place: &Place,
+    below: &B,
+    depth: u32,
+    cells: &mut C,
+) -> Result<Value, Stop>
+    requires fit { IsFit S.scope plan.now (world_of S.scope.doc) }
+    requires below { IsBelow C.scope C.asked B.can_eval B.eval_gives below.now S.scope depth }
+    requires deep { depth ≤ 128 }
+    requires same { C.scope cells.old ≡ S.scope }
+    requires can { CanRun S.scope (asking (lazy_at inst slot place.now) (meaning.lazy_content S.scope.doc (meaning.eval S.scope.doc depth) inst slot place.now)) }
+    ensures ran { Ran S.scope (asking (lazy_at inst slot place.now) (meaning.lazy_content S.scope.doc (meaning.eval S.scope.doc depth) inst slot place.now)) (C.asked cells.old) (C.asked cells.new) result }
+    ensures same { C.scope cells.new ≡ S.scope }
+{
+    from_kept(cells.lazy(
+        inst,
+        slot,
+        place,
+        |c: &mut C| -> Result<Kept, NoMemory>
+            requires fit { IsFit S.scope plan.now (world_of S.scope.doc) }
+            requires below { IsBelow C.scope C.asked B.can_eval B.eval_gives below.now S.scope depth }
+            requires deep { depth ≤ 128 }
+            requires same { C.scope c.old ≡ S.scope }
+            requires can { CanRun S.scope (meaning.lazy_content S.scope.doc (meaning.eval S.scope.doc depth) inst slot place.now) }
+            ensures exact { Answers (lazy_at inst slot place.entry.now) (asked_by (C.scope c.old).doc (lazy_at inst slot place.entry.now)) (C.scope c.old) (C.scope c.new) (C.asked c.old) (C.asked c.new) result }
+        {
+            made_lazy::<S, C, B>(alloc, plan, inst, slot, place, below, depth, c)
+        },
+    ))
 }
