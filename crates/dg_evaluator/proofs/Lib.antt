@@ -8,3 +8,4 @@ pub mod Passing
 pub mod Behind
 pub mod TextLemmas
 pub mod RanLemmas
+pub mod LayerLemmas

@@ -1,6 +1,13 @@
 -- What a call of the evaluator has to do with the run that it makes.
-use Rattle.std.specs.Prelude.{◌≡◌, List, Option, Some, None, Result, Ok, Err, Contains, option_map}
+use Rattle.std.specs.Prelude.{◌≡◌, ℕ, List, Option, Some, None, Result, Ok, Err, Contains, option_map}
+use Rattle.dg_types.specs.declared.memory.NoMemory.{NoMemory}
 use Rattle.dg_decl.specs.declared.document.Doc.{Doc}
+use Rattle.dg_value.specs.declared.value.Kept.{Kept}
+use Rattle.dg_value.specs.declared.value.Kept.TheVariants as kept
+use Rattle.dg_value.specs.declared.value.Value.{Value}
+use Rattle.dg_value.specs.declared.value.Value.TheVariants as value
+use Rattle.dg_value.specs.declared.value.Kept.TheOpen.{Value-F}
+use Rattle.dg_value.specs.Same.{Layer}
 use Rattle.dg_eval.specs.Runs.{Asked, Run, asks_of}
 use Rattle.dg_evaluator.specs.declared.stop.Stop.{Stop}
 use Rattle.dg_evaluator.specs.declared.stop.Stop.TheVariants as stop
@@ -36,3 +43,19 @@ pub record Ran {A : Type 0} (s : Scope) (run : Run A) (old new : Option (List As
     (result : Result A Stop) : Type 0 where
   pub gave : Gave run result
   pub asked : AskedFor s.doc (asks_of run) old new result
+
+-- the result of an evaluation whose value or failure is kept
+abbrev pub result_of : Result Kept NoMemory → Result Value Stop
+result_of (Ok (kept.Value v)) = Ok v
+result_of (Ok (kept.Failed f)) = Err (stop.Failed f)
+result_of (Err e) = Err stop.NoMemory
+
+-- a result whose value is held in the cell of a slot in an instance
+abbrev pub held_of : ℕ → ℕ → Result Value Stop → Result Value Stop
+held_of i k (Ok v) = Ok (value.Held i k)
+held_of i k (Err e) = Err e
+
+-- the instance and the slot whose cell holds a value
+abbrev pub held_at : Layer → Option (ℕ × ℕ)
+held_at (Value-F.Held i k) = Some (i, k)
+held_at other = None

@@ -4,6 +4,7 @@
 mod below;
 mod cells;
 mod context;
+mod layers;
 mod operations;
 mod outcome;
 mod parts;

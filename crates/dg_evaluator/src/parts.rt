@@ -2,6 +2,7 @@ ghost use Rattle.std.specs.Prelude.{◌≡◌, option_map};
 ghost use Rattle.std.specs.Option.{option_copied};
 ghost use Rattle.dg_value.specs.declared.value.Value.{out-Value};
 ghost use Rattle.dg_eval.specs.Operations as spec;
+ghost use Rattle.dg_evaluator.specs.Results.{held_at};
 
 use dg_types::{MapKeyVal, Text};
 use dg_value::{Kept, Value};
@@ -22,6 +23,16 @@ pub fn text(value: &Value) -> Option<&Text>
 {
     match value {
         Value::Text(t) => Some(t.get()),
+        _ => None,
+    }
+}
+
+/// The instance and the slot of the cell that holds a value.
+pub fn held_cell(value: &Value) -> Option<(u32, u32)>
+    ensures exact { result ≡ held_at (out-Value value.now) }
+{
+    match value {
+        Value::Held { inst, slot } => Some((*inst, *slot)),
         _ => None,
     }
 }
