@@ -108,14 +108,14 @@ asked : (s : Scope) (x : Asked) (r : Run Value) (a b : Option (List Asked))
 asked s x None a b res of c h k = absurd c.may
 asked s x (Some (q, asks)) a b (Ok (kept.Value v)) of c h k =
     let same : as_kept q ≡ kept.Value v =
-        some_same (ap (λ u. option_map (λ p. as_kept p.0) u) (sym of.content) ∙ h) in
+    some_same (ap (λ u. option_map (λ p. as_kept p.0) u) (sym of.content) ∙ h) in
     record { gave = ap (λ u. Some u) (value_of_kept q v same); asked = k }
   where
     some_same : {x y : Kept} → Some x ≡ Some y → x ≡ y
     some_same e = cc
 asked s x (Some (q, asks)) a b (Ok (kept.Failed f)) of c h k =
     let same : as_kept q ≡ kept.Failed f =
-        some_same (ap (λ u. option_map (λ p. as_kept p.0) u) (sym of.content) ∙ h) in
+    some_same (ap (λ u. option_map (λ p. as_kept p.0) u) (sym of.content) ∙ h) in
     record { gave = ap (λ u. Some u) (failure_of_kept q f same); asked = k }
   where
     some_same : {x y : Kept} → Some x ≡ Some y → x ≡ y
@@ -139,8 +139,8 @@ cell_settled : (doc : Doc) (depth i k : ℕ) → depth ≤ 128 → content (eval
 unfolding content_of asked_by
 cell_settled doc depth i k le there =
     let same : content_of doc i k ≡ content (eval doc depth) i k =
-        stays (content (eval doc depth) i k) (content (eval doc 128) i k)
-        (content_grows (eval doc depth) (eval doc 128) (eval_grows_to doc depth 128 le) i k) there in
+    stays (content (eval doc depth) i k) (content (eval doc 128) i k)
+    (content_grows (eval doc depth) (eval doc 128) (eval_grows_to doc depth 128 le) i k) there in
     record { content = same; asks = ap (λ (r : Run Value). asks_of r) same }
 
 lazy_settled : (doc : Doc) (depth i k : ℕ) (p : Place) → depth ≤ 128
@@ -149,9 +149,9 @@ lazy_settled : (doc : Doc) (depth i k : ℕ) (p : Place) → depth ≤ 128
 unfolding lazy_content_of asked_by
 lazy_settled doc depth i k p le there =
     let same : lazy_content_of doc i k p ≡ lazy_content doc (eval doc depth) i k p =
-        stays (lazy_content doc (eval doc depth) i k p) (lazy_content doc (eval doc 128) i k p)
-        (lazy_grows doc (eval doc depth) (eval doc 128) (eval_grows_to doc depth 128 le) i k p)
-        there in
+    stays (lazy_content doc (eval doc depth) i k p) (lazy_content doc (eval doc 128) i k p)
+    (lazy_grows doc (eval doc depth) (eval doc 128) (eval_grows_to doc depth 128 le) i k p)
+    there in
     record { content = same; asks = ap (λ (r : Run Value). asks_of r) same }
 
 -- ---- cells

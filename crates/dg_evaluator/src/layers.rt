@@ -91,9 +91,7 @@ pub fn content<S: InScope, C: Cells, B: Below<C>>(
             requires same { C.scope c.old ≡ S.scope }
             requires can { CanRun S.scope (meaning.content (meaning.eval S.scope.doc depth) inst slot) }
             ensures exact { Answers (cell inst slot) (asked_by (C.scope c.old).doc (cell inst slot)) (C.scope c.old) (C.scope c.new) (C.asked c.old) (C.asked c.new) result }
-        {
-            made_cell::<S, C, B>(alloc, inst, slot, below, depth, c)
-        },
+        { made_cell::<S, C, B>(alloc, inst, slot, below, depth, c) },
     ))
 }
 
@@ -124,7 +122,11 @@ pub fn held<S: InScope, C: Cells, B: Below<C>>(
     ensures ran { Ran S.scope (meaning.held (meaning.eval S.scope.doc depth) inst slot) (C.asked cells.old) (C.asked cells.new) result }
     ensures same { C.scope cells.new ≡ S.scope }
 {
-    as_held(inst, slot, content::<S, C, B>(alloc, inst, slot, below, depth, cells))
+    as_held(
+        inst,
+        slot,
+        content::<S, C, B>(alloc, inst, slot, below, depth, cells),
+    )
 }
 
 /// An instance of what a slot gives, at a place.
@@ -201,9 +203,7 @@ fn lazy_content<S: InScope, C: Cells, B: Below<C>>(
     ensures same { C.scope cells.new ≡ S.scope }
 {
     match place.then_step(PlaceStep::Inside) {
-        Ok(inside) => {
-            instance::<S, C, B>(alloc, plan, inst, slot, inside, below, depth, cells)
-        }
+        Ok(inside) => { instance::<S, C, B>(alloc, plan, inst, slot, inside, below, depth, cells) }
         Err(_) => Err(Stop::NoMemory),
     }
 }
@@ -226,9 +226,7 @@ fn made_lazy<S: InScope, C: Cells, B: Below<C>>(
     requires can { CanRun S.scope (meaning.lazy_content S.scope.doc (meaning.eval S.scope.doc depth) inst slot place.now) }
     ensures exact { Answers (lazy_at inst slot place.now) (asked_by (C.scope cells.old).doc (lazy_at inst slot place.now)) (C.scope cells.old) (C.scope cells.new) (C.asked cells.old) (C.asked cells.new) result }
 {
-    to_keep(lazy_content::<S, C, B>(
-        alloc, plan, inst, slot, place, below, depth, cells,
-    ))
+    to_keep(lazy_content::<S, C, B>(alloc, plan, inst, slot, place, below, depth, cells))
 }
 
 /// What is inside a Lazy that was made at a place.
@@ -261,8 +259,6 @@ pub fn inside_lazy<S: InScope, C: Cells, B: Below<C>>(
             requires same { C.scope c.old ≡ S.scope }
             requires can { CanRun S.scope (meaning.lazy_content S.scope.doc (meaning.eval S.scope.doc depth) inst slot place.now) }
             ensures exact { Answers (lazy_at inst slot place.entry.now) (asked_by (C.scope c.old).doc (lazy_at inst slot place.entry.now)) (C.scope c.old) (C.scope c.new) (C.asked c.old) (C.asked c.new) result }
-        {
-            made_lazy::<S, C, B>(alloc, plan, inst, slot, place, below, depth, c)
-        },
+        { made_lazy::<S, C, B>(alloc, plan, inst, slot, place, below, depth, c) },
     ))
 }

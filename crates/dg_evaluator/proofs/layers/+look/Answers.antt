@@ -16,11 +16,32 @@ pub look-requires : goal.look-requires
 look-requires g t c κs within =
     let f = eval g.S.InScope.scope.doc c.args.depth in
     let deep = look_deep g.S.InScope.scope f c.args.times c.args.value
-        (c.in-Some.inst, c.in-Some.slot) (sym c.in-Some.ensures.exact) c.requires.can in
-    (omega (arith, deep, c.decreases), (search rules, (search rules, (search rules,
-    (c.requires.below, (c.requires.deep, (c.requires.closed, (c.content.ensures.same,
-    look_can g.S.InScope.scope f c.args.times c.args.value (c.in-Some.inst, c.in-Some.slot) _ _ _
-    c.in-Some.ensures.exact c.requires.can c.in_ok-behind-in-Some.ensures.ran))))))))
+    (c.in-Some.inst, c.in-Some.slot) (sym c.in-Some.ensures.exact) c.requires.can in (
+      omega (arith, deep, c.decreases),
+      (
+        search rules,
+        (
+          search rules,
+          (
+            search rules,
+            (
+              c.requires.below,
+              (
+                c.requires.deep,
+                (
+                  c.requires.closed,
+                  (
+                    c.content.ensures.same,
+                    look_can g.S.InScope.scope f c.args.times c.args.value (c.in-Some.inst, c.in-Some.slot) _ _ _
+                        c.in-Some.ensures.exact c.requires.can c.in_ok-behind-in-Some.ensures.ran,
+                  ),
+                ),
+              ),
+            ),
+          ),
+        ),
+      ),
+    )
 
 pub returns-in-None-clause-ran : goal.returns-in-None-clause-ran
 returns-in-None-clause-ran g t c =

@@ -7,9 +7,16 @@ kept-requires-clause-may g c =
     may_over g.S.InScope.scope _ _ _ c.requires.same c.requires.can
 
 pub kept-requires-clause-can : goal.kept-requires-clause-can
-kept-requires-clause-can g c = λ s e p at.
-    (c.requires.below, (c.requires.deep, (ap g.C.Cells.scope at ∙ e ∙ c.requires.same,
-    can_make_cell g.S.InScope.scope _ _ _ c.requires.deep c.requires.closed c.requires.can)))
+kept-requires-clause-can g c = λ s e p at. (
+  c.requires.below,
+  (
+    c.requires.deep,
+    (
+      ap g.C.Cells.scope at ∙ e ∙ c.requires.same,
+      can_make_cell g.S.InScope.scope _ _ _ c.requires.deep c.requires.closed c.requires.can,
+    ),
+  ),
+)
 
 pub returns : goal.returns
 returns g c = record {

@@ -11,11 +11,20 @@ lazy-requires-clause-may g c =
     c.args.slot c.args.place.now) c.requires.same c.requires.can
 
 pub lazy-requires-clause-can : goal.lazy-requires-clause-can
-lazy-requires-clause-can g c = λ s e p at.
-    (c.requires.fit, (c.requires.below, (c.requires.deep,
-    (ap g.C.Cells.scope at ∙ e ∙ c.requires.same,
-    can_make_lazy g.S.InScope.scope c.args.depth c.args.inst c.args.slot c.args.place.now
-    c.requires.deep c.requires.fit.closed c.requires.can))))
+lazy-requires-clause-can g c = λ s e p at. (
+  c.requires.fit,
+  (
+    c.requires.below,
+    (
+      c.requires.deep,
+      (
+        ap g.C.Cells.scope at ∙ e ∙ c.requires.same,
+        can_make_lazy g.S.InScope.scope c.args.depth c.args.inst c.args.slot c.args.place.now
+            c.requires.deep c.requires.fit.closed c.requires.can,
+      ),
+    ),
+  ),
+)
 
 pub returns : goal.returns
 returns g c = record {
