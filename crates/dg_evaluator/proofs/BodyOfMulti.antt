@@ -35,7 +35,7 @@ use Rattle.dg_eval.specs.Operations.{or_mistyped, only_of}
 use Rattle.dg_eval.specs.Bodies.{value_end}
 use Rattle.dg_eval.specs.Meaning.{node_at, Eval, given, look, added_by_all, set_of_added, pairs, multi_of, optional_of, eval_node}
 use Rattle.dg_evaluator.specs.Ends.{end_of_node}
-use Rattle.dg_evaluator.proofs.LookUps.{IsMulti, MultiFits, multi_fits}
+use Rattle.dg_requests.proofs.LookUps.{IsMulti, MultiFits, multi_fits}
 
 -- ---- which body a node has
 

@@ -56,7 +56,7 @@ use Rattle.dg_eval.proofs.AcceptedDepth.{stages_of_accepted}
 use Rattle.dg_eval.proofs.CallLemmas.{HasRequest, plain_asks, params_ask, asked_for, all_asked, item_fits}
 use Rattle.dg_eval.proofs.RunResults.{Each}
 use Rattle.dg_evaluator.specs.Ends.{end_of_node}
-use Rattle.dg_evaluator.proofs.NodeKinds.{IsMember, IsInjected, KindFits, node_fits}
+use Rattle.dg_requests.proofs.NodeKinds.{IsMember, IsInjected, KindFits, node_fits}
 
 -- ---- runs that go on
 

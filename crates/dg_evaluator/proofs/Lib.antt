@@ -1,11 +1,2 @@
-pub mod ContextLemmas
-pub mod NodeKinds
-pub mod LookUps
 pub mod BodyOfSlot
 pub mod BodyOfMulti
-pub mod Productions
-pub mod Passing
-pub mod Behind
-pub mod TextLemmas
-pub mod RanLemmas
-pub mod LayerLemmas

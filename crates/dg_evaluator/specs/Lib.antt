@@ -1,5 +1,1 @@
-pub mod Scopes
-pub mod Results
 pub mod Ends
-pub mod Contexts
-pub mod Depths

@@ -1,0 +1,8 @@
+//! Bodies: what an expression, a condition or a decision tree gives.
+#![tactic(auto)]
+
+mod operations;
+mod parts;
+
+pub use operations::{failed, mistyped};
+pub use parts::{elements, entry_value, entry_with, inside, production, value_if};

@@ -1,4 +1,0 @@
-use Rattle.dg_evaluator.proofs.layers.+look.Given as goal
-
-abbrev pub decreases-look : goal.decreases-look
-decreases-look g l = l.times

@@ -1,0 +1,4 @@
+pub mod Scopes
+pub mod Results
+pub mod Contexts
+pub mod Depths

@@ -1,0 +1,15 @@
+//! What requests are given: over contents that others keep, the plan and the world of a document, and
+//! an evaluation at the depth below.
+#![tactic(auto)]
+
+mod below;
+mod cells;
+mod context;
+mod layers;
+mod stop;
+
+pub use below::{Below, Deeper};
+pub use cells::Cells;
+pub use context::{Target, bound_value, is_cell, producer_behind, slot_in, target_at};
+pub use layers::{InScope, content, held, inside_lazy, instance, look};
+pub use stop::Stop;
