@@ -1,0 +1,3 @@
+pub mod TraceLemmas
+pub mod BodyTraces
+pub mod EvalTraces
