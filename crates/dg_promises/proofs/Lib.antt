@@ -1,3 +1,5 @@
 pub mod TraceLemmas
 pub mod BodyTraces
 pub mod EvalTraces
+pub mod AskTraces
+pub mod HeldLaw

@@ -1,5 +1,5 @@
-use Rattle.dg_promises.proofs.EvalTraces.{evaluation}
+use Rattle.dg_promises.proofs.HeldLaw.{held_by_uses}
 use Rattle.dg_promises.proofs.replies.held_are_used.Goals as goal
 
 pub returns : goal.returns
-returns c = record { exact = ? }
+returns c = record { exact = held_by_uses ? }
