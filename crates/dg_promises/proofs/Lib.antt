@@ -3,3 +3,5 @@ pub mod BodyTraces
 pub mod EvalTraces
 pub mod AskTraces
 pub mod HeldLaw
+pub mod WholeLemmas
+pub mod WholeLaw
