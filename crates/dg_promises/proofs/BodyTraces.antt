@@ -4,7 +4,7 @@ use Rattle.std.specs.Prelude.{ℤ, ◌+ℤ◌, pos, codes}
 use Rattle.std.specs.List.{filter_map, cons_option}
 use Rattle.std.specs.Option.{option_map_or}
 use Rattle.std.specs.Fmt.{signed_decimal}
-use Rattle.std.proofs.lemmas.Option.{none-some, same_Some}
+use Rattle.std.proofs.lemmas.Option.{none-some}
 use Rattle.dg_lex.specs.Bytes.{Bytes}
 use Rattle.dg_types.specs.declared.key.MapKeyVal.{MapKeyVal}
 use Rattle.dg_decl.specs.declared.expression.CallName.{CallName}
@@ -14,9 +14,9 @@ use Rattle.dg_decl.specs.declared.expression.ParamCall.TheVariants as by_name
 use Rattle.dg_decl.proofs.MemberLemmas.{out_option_map}
 use Rattle.dg_slots.specs.declared.body.NExpr.{NExpr}
 use Rattle.dg_slots.specs.declared.body.NCond.{NCond}
-use Rattle.dg_slots.specs.declared.body.NCond.TheOpen.{NCond-F, NExpr-F}
-use Rattle.dg_slots.specs.declared.body.NCond.TheViews.{roll-NCond, roll-NExpr}
-use Rattle.dg_slots.specs.declared.body.NCond.TheFolds.{ind-NCond, ind-NExpr, map-NCond, map-NExpr, fold-roll-NCond, fold-roll-NExpr}
+use Rattle.dg_slots.specs.declared.body.NCond.TheOpen.{NExpr-F}
+use Rattle.dg_slots.specs.declared.body.NCond.TheViews.{roll-NExpr}
+use Rattle.dg_slots.specs.declared.body.NCond.TheFolds.{ind-NExpr, map-NExpr, fold-roll-NExpr}
 use Rattle.dg_slots.specs.declared.body.NTree.{NTree}
 use Rattle.dg_slots.specs.declared.body.NTree.TheOpen.{NTree-F}
 use Rattle.dg_slots.specs.declared.body.NTree.TheViews.{roll-NTree}
@@ -28,9 +28,9 @@ use Rattle.dg_value.specs.declared.value.Kept.{Kept, out-Kept}
 use Rattle.dg_value.specs.declared.value.Kept.TheOpen.{Kept-F, Value-F}
 use Rattle.dg_value.specs.declared.value.Value.TheVariants as value
 use Rattle.dg_value.specs.Places.{then_step}
-use Rattle.dg_value.specs.Same.{Layer, same_element}
+use Rattle.dg_value.specs.Same.{Layer}
 use Rattle.dg_eval.specs.Runs.{Run, gives, failed, and_then, in_order, mistyped}
-use Rattle.dg_eval.specs.Operations.{or_mistyped, field_in, is_in_range, sum_of, sum_in, with_two, less_in, equal_in, all_in, joined, cat_of, cat_in, only_of, int_in, text_in, decimal_of, size_at, fail_of, kept_in, value_of_kept, value_in, message_of, failure_in, value_if, is_ok_in, entry_value, keyed, inside_in, has_in}
+use Rattle.dg_eval.specs.Operations.{or_mistyped, field_in, is_in_range, sum_of, sum_in, with_two, all_in, joined, cat_of, cat_in, only_of, int_in, text_in, decimal_of, size_at, fail_of, kept_in, value_of_kept, value_in, message_of, failure_in, value_if, entry_value, keyed, inside_in}
 use Rattle.dg_eval.specs.Bodies.{End, value_end, producer_end, Around, Part, runs_of, looked, look_all, of_two, of_all, has_same, with_element, with_elements, set_of, values_at, values_in, called_with, by_param, inside_or, cond_at, chosen, expr_at, expr_part, cond_part, tree_at, tree_part}
 use Rattle.dg_eval.proofs.RunResults.{Allowed, Each, each_append}
 use Rattle.dg_eval.proofs.ValueLemmas.{AllIn, AllInKept, InEntry, InLayer, InKeptLayer, layer_of, kept_layer_of, in_text, in_int, in_object, in_set, in_map}

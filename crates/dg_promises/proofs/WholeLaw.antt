@@ -4,7 +4,6 @@ use Rattle.std.specs.Prelude.{IsSome}
 use Rattle.std.specs.List.{enumerate_from}
 use Rattle.std.proofs.lemmas.Option.{none-some, same_Some}
 use Rattle.dg_decl.specs.declared.document.Doc.{Doc}
-use Rattle.dg_decl.specs.Diagnostics.{IsAccepted}
 use Rattle.dg_decl.proofs.MemberLemmas.{out_map}
 use Rattle.dg_slots.specs.declared.session.Ask.{Ask}
 use Rattle.dg_slots.specs.Sessions.{asks_of}

@@ -3,7 +3,7 @@ use Rattle.std.proofs.Common.{◌≡◌, ℕ, suc, List, [], ◌∷◌, map, Opt
 use Rattle.std.specs.Prelude.{IsSome}
 use Rattle.dg_types.specs.declared.key.MapKeyVal.{MapKeyVal}
 use Rattle.dg_decl.specs.declared.document.Doc.{Doc}
-use Rattle.dg_value.specs.declared.value.Kept.{Kept, out-Kept, fold-Kept}
+use Rattle.dg_value.specs.declared.value.Kept.{Kept, fold-Kept}
 use Rattle.dg_value.specs.declared.value.Kept.TheVariants as kept
 use Rattle.dg_value.specs.declared.value.Kept.TheOpen.{Kept-F, Value-F}
 use Rattle.dg_value.specs.declared.value.Kept.TheViews.{roll-Kept, roll-Value, out-roll-Kept, out-roll-Value}
