@@ -199,8 +199,8 @@ body_traced : (doc : Doc) (R : Allowed) (f : Eval) → IsBelow doc R f → (dept
     (λ body. (tree_part body).run (around doc f depth k q vs) 0 0) (body_of doc x) mistyped)
 body_traced doc R f h depth k q x vs good =
     option_traced R (AtEnd R) (body_of doc x) _ mistyped
-    (λ body e. tree_traced R body (around doc f depth k q vs) (sees doc R f h depth k q vs good) 0 0)
-    tt
+    (λ body e. tree_traced R body (around doc f depth k q vs) (sees doc R f h depth k q vs good) 0
+    0) tt
 
 end_traced : (doc : Doc) (R : Allowed) (f : Eval) → IsBelow doc R f → (depth k : ℕ) (q : Place)
     → (x : Item) (vs : List Value) → Each (AllIn R) vs
@@ -341,15 +341,15 @@ node_traced : (doc : Doc) (R : Allowed) (f : Eval) → IsBelow doc R f → (dept
 node_traced doc R f h depth i k class (node.Bound b) q =
     binding_traced doc R f h depth i k (node_of class (node.Bound b)) q b
 node_traced doc R f h depth i k class (node.Multi key) q =
-    then_traced R (Each (AllIn R)) (AllIn R) (all (given doc f i (node_of class (node.Multi key)) q))
-    _ (given_traced doc R f h i (node_of class (node.Multi key)) q)
+    then_traced R (Each (AllIn R)) (AllIn R)
+    (all (given doc f i (node_of class (node.Multi key)) q)) _ (given_traced doc R f h i (node_of class (node.Multi key)) q)
     (multi_traced doc R f h depth class key key.core)
 node_traced doc R f h depth i k class (node.Opt key) q =
-    then_traced R (Each (AllIn R)) (AllIn R) (all (given doc f i (node_of class (node.Opt key)) q))
-    _ (given_traced doc R f h i (node_of class (node.Opt key)) q) (optional_traced R)
+    then_traced R (Each (AllIn R)) (AllIn R)
+    (all (given doc f i (node_of class (node.Opt key)) q)) _ (given_traced doc R f h i (node_of class (node.Opt key)) q) (optional_traced R)
 node_traced doc R f h depth i k class (node.EntryOf e) q =
-    then_traced R (Each (AllIn R)) (AllIn R) (all (given doc f i (node_of class (node.EntryOf e)) q))
-    _ (given_traced doc R f h i (node_of class (node.EntryOf e)) q) (only_traced R)
+    then_traced R (Each (AllIn R)) (AllIn R)
+    (all (given doc f i (node_of class (node.EntryOf e)) q)) _ (given_traced doc R f h i (node_of class (node.EntryOf e)) q) (only_traced R)
 
 -- ---- evaluation
 
