@@ -342,14 +342,17 @@ node_traced doc R f h depth i k class (node.Bound b) q =
     binding_traced doc R f h depth i k (node_of class (node.Bound b)) q b
 node_traced doc R f h depth i k class (node.Multi key) q =
     then_traced R (Each (AllIn R)) (AllIn R)
-    (all (given doc f i (node_of class (node.Multi key)) q)) _ (given_traced doc R f h i (node_of class (node.Multi key)) q)
+    (all (given doc f i (node_of class (node.Multi key)) q)) _
+    (given_traced doc R f h i (node_of class (node.Multi key)) q)
     (multi_traced doc R f h depth class key key.core)
 node_traced doc R f h depth i k class (node.Opt key) q =
     then_traced R (Each (AllIn R)) (AllIn R)
-    (all (given doc f i (node_of class (node.Opt key)) q)) _ (given_traced doc R f h i (node_of class (node.Opt key)) q) (optional_traced R)
+    (all (given doc f i (node_of class (node.Opt key)) q)) _
+    (given_traced doc R f h i (node_of class (node.Opt key)) q) (optional_traced R)
 node_traced doc R f h depth i k class (node.EntryOf e) q =
     then_traced R (Each (AllIn R)) (AllIn R)
-    (all (given doc f i (node_of class (node.EntryOf e)) q)) _ (given_traced doc R f h i (node_of class (node.EntryOf e)) q) (only_traced R)
+    (all (given doc f i (node_of class (node.EntryOf e)) q)) _
+    (given_traced doc R f h i (node_of class (node.EntryOf e)) q) (only_traced R)
 
 -- ---- evaluation
 

@@ -1,3 +1,4 @@
+pub mod UseLemmas
 pub mod TraceLemmas
 pub mod BodyTraces
 pub mod EvalTraces
