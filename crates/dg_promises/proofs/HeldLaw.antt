@@ -1,5 +1,5 @@
 -- An ask uses each cell that its reply holds, where its uses end.
-use Rattle.std.proofs.Common.{◌≡◌, ℕ, zero, suc, List, [], ◌∷◌, Contains, Some, inl, inr, sym, subst}
+use Rattle.std.proofs.Common.{ℕ, zero, suc, List, [], ◌∷◌, Contains, inl, inr, sym, subst}
 use Rattle.dg_decl.specs.declared.document.Doc.{Doc}
 use Rattle.dg_decl.specs.Diagnostics.{IsAccepted}
 use Rattle.dg_decl.proofs.MemberLemmas.{none_in, in_front, first_or_rest, in_flat_map, out_flat_map}
@@ -8,13 +8,12 @@ use Rattle.dg_slots.specs.declared.session.Ask.{Ask}
 use Rattle.dg_value.specs.declared.value.Value.{Value}
 use Rattle.dg_eval.specs.Named.{Named, held_cell, names_in}
 use Rattle.dg_eval.specs.Runs.{Asked, cell, asks_of}
-use Rattle.dg_eval.specs.Meaning.{content_of}
 use Rattle.dg_eval.specs.Asks.{run_of_ask, numbered_asks, asked_by, used, used_by_ask}
 use Rattle.dg_eval.proofs.RunResults.{Allowed, Each}
 use Rattle.dg_eval.proofs.ValueLemmas.{AllIn}
 use Rattle.dg_eval.proofs.BodyResults.{each_in}
 use Rattle.dg_promises.specs.Uses.{UsesEnd}
-use Rattle.dg_promises.specs.Replies.{UsesHeld, HoldsUsed, HeldAreUsed}
+use Rattle.dg_promises.specs.Replies.{UsesHeld, HeldAreUsed}
 use Rattle.dg_promises.proofs.EvalTraces.{IsClosed, content_named}
 use Rattle.dg_promises.proofs.AskTraces.{reply_named}
 
