@@ -34,8 +34,8 @@ use Rattle.dg_eval.specs.Operations.{or_mistyped, field_in, is_in_range, sum_of,
 use Rattle.dg_eval.specs.Bodies.{End, value_end, producer_end, Around, Part, runs_of, looked, look_all, of_two, of_all, has_same, with_element, with_elements, set_of, values_at, values_in, called_with, by_param, inside_or, cond_at, chosen, expr_at, expr_part, cond_part, tree_at, tree_part}
 use Rattle.dg_eval.proofs.RunResults.{Allowed, Each, each_append}
 use Rattle.dg_eval.proofs.ValueLemmas.{AllIn, AllInKept, InEntry, InLayer, InKeptLayer, layer_of, kept_layer_of, in_text, in_int, in_object, in_set, in_map}
-use Rattle.dg_eval.proofs.BodyResults.{field_gives, only_gives, kept_in_good, value_of_good, inside_good}
-use Rattle.dg_promises.proofs.TraceLemmas.{Traced, Any, gives_traced, any_traced, then_traced, if_traced, option_traced, in_order_traced}
+use Rattle.dg_eval.proofs.BodyResults.{Any, field_gives, only_gives, kept_in_good, value_of_good, inside_good}
+use Rattle.dg_promises.proofs.TraceLemmas.{Traced, gives_traced, any_traced, then_traced, if_traced, option_traced, in_order_traced}
 
 -- ---- operations
 

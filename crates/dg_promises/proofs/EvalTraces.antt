@@ -46,9 +46,9 @@ use Rattle.dg_eval.specs.Report.{value_of_run}
 use Rattle.dg_eval.proofs.GrowthLemmas.{EvalGrows, lazy_grows, eval_grows_to}
 use Rattle.dg_eval.proofs.RunResults.{Allowed, Each, each_append}
 use Rattle.dg_eval.proofs.ValueLemmas.{AllIn, InEntry, InLayer, layer_of, in_object, in_held, in_set, in_map, in_provider, in_provider_lazy, in_lazy, in_none, in_some, in_failed, in_good}
-use Rattle.dg_eval.proofs.BodyResults.{each_in, only_gives, kept_in_good, value_of_good}
+use Rattle.dg_eval.proofs.BodyResults.{Any, each_in, only_gives, kept_in_good, value_of_good}
 use Rattle.dg_eval.proofs.ConstantLemmas.{bound_gives}
-use Rattle.dg_promises.proofs.TraceLemmas.{Traced, Any, gives_traced, any_traced, then_traced, asking_traced, named_traced, outcome_traced, if_traced, or_traced, option_traced, all_traced, value_traced, asks_before, value_later}
+use Rattle.dg_promises.proofs.TraceLemmas.{Traced, gives_traced, any_traced, then_traced, asking_traced, named_traced, outcome_traced, if_traced, or_traced, option_traced, all_traced, value_traced, asks_before, value_later}
 use Rattle.dg_promises.proofs.BodyTraces.{Looks, AtEnd, Sees, set_traced, tree_traced}
 
 -- What may be asked is closed under what a content asks for, and a cell that may be asked may be

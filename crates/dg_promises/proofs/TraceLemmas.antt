@@ -11,6 +11,7 @@ use Rattle.dg_eval.specs.Operations.{or_mistyped}
 use Rattle.dg_eval.specs.Report.{value_of_run}
 use Rattle.dg_eval.proofs.RunGrowth.{Grows}
 use Rattle.dg_eval.proofs.RunResults.{Allowed, Gives, Each}
+use Rattle.dg_eval.proofs.BodyResults.{Any}
 
 each_left : {A : Type 0} (P : A → Type 0) (xs ys : List A) → Each P (xs ++ ys) → Each P xs
 each_left P [] ys every = tt
@@ -30,10 +31,6 @@ pub gives_traced : {A : Type 0} (R : Allowed) (P : A → Type 0) (x : Run A) →
 gives_traced R P None g = tt
 gives_traced R P (Some (Ok a, asked)) g = λ every. g.0
 gives_traced R P (Some (Err f, asked)) g = tt
-
--- what is so of any value
-abbrev pub Any : {A : Type 0} → A → Type 0
-Any a = Unit {0}
 
 pub any_traced : {A : Type 0} (R : Allowed) (x : Run A) → Traced R Any x
 any_traced R None = tt
