@@ -1,1 +1,3 @@
 pub mod UseLemmas
+pub mod ShareLemmas
+pub mod IdentityLemmas
