@@ -123,8 +123,8 @@ same_by_identity v w p q e f =
 
 before_new : (p q : Place) → then_step p (step.New 1) ≡ then_step q (step.New 1) → p ≡ q
 before_new p q e =
-    let steps = append_cancel_right p.steps q.steps (step.New 1 ∷ []) (ap (λ (r : Place). r.steps) e)
-    in
+    let steps = append_cancel_right p.steps q.steps (step.New 1 ∷ [])
+    (ap (λ (r : Place). r.steps) e) in
     let first = ap (λ (r : Place). r.root) e in
     λ x. record { root = first x; steps = steps x }
 

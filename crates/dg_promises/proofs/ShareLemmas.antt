@@ -1,5 +1,5 @@
 -- What all who ask for a cell are given.
-use Rattle.std.proofs.Common.{◌≡◌, ◌≢◌, ◌≤◌, ℕ, zero, suc, Bool, true, false, cond, List, [], ◌∷◌, Contains, Option, Some, None, Result, Ok, Err, refl, sym, ap, subst, ◌∙◌, arith, inl, inr}
+use Rattle.std.proofs.Common.{◌≡◌, ◌≢◌, ◌≤◌, ℕ, suc, Bool, true, false, cond, List, [], ◌∷◌, Contains, Option, Some, None, Result, Ok, Err, refl, sym, ap, subst, ◌∙◌, arith, inl, inr}
 use Rattle.std.specs.Prelude.{IsSome}
 use Rattle.std.specs.Option.{option_map_or}
 use Rattle.std.proofs.lemmas.Bool.{false≢true, cases_lt, or_right}
@@ -10,7 +10,7 @@ use Rattle.dg_decl.specs.declared.graph.NodeKind.{NodeKind}
 use Rattle.dg_decl.specs.declared.graph.NodeKind.TheVariants as node
 use Rattle.dg_decl.specs.Walks.{root}
 use Rattle.dg_decl.specs.Graph.{node_of, nodes}
-use Rattle.dg_decl.specs.Sizes.{scope_of, is_producer, is_production, is_entry}
+use Rattle.dg_decl.specs.Sizes.{is_producer, is_production, is_entry}
 use Rattle.dg_decl.proofs.GraphLemmas.{productions_by_short_walks}
 use Rattle.dg_decl.proofs.MemberLemmas.{in_front, in_got}
 use Rattle.dg_value.specs.declared.place.Place.{Place}
@@ -32,7 +32,7 @@ use Rattle.dg_eval.proofs.CallLemmas.{calls_are_edges}
 use Rattle.dg_eval.proofs.PlaceLemmas.{placing}
 use Rattle.dg_eval.proofs.StandLemmas.{all_stand}
 use Rattle.dg_eval.specs.Laws.{IsPlaceOf}
-use Rattle.dg_promises.specs.Uses.{Way, by_request, by_provider, by_lazy, given_by, ComesTo, as_held, HasOneValue, OneValueForEachInstance, IsProducerSlot, HasOneContent, OneContentForEachProducer}
+use Rattle.dg_promises.specs.Uses.{Way, by_request, by_provider, by_lazy, given_by, ComesTo, as_held, HasOneValue, OneValueForEachInstance, HasOneContent, OneContentForEachProducer}
 
 -- ---- at each depth
 

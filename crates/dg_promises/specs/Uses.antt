@@ -33,8 +33,8 @@ AsksAreAnswered =
     (doc : Doc) → IsAccepted doc → (number : ℕ) (a : Ask) → Contains (numbered_asks doc) (number, a)
     → IsSome (answer_to doc number a)
 
--- Uses end: a cell or Lazy that an ask uses through ever so many others is one of those that it uses
--- through 256.
+-- Uses end: a cell or Lazy that an ask uses through ever so many others is one of those that it
+-- uses through 256.
 abbrev pub UsesEnd : Type 0
 UsesEnd =
     (doc : Doc) → IsAccepted doc → (p : ℕ × Ask) → Contains (numbered_asks doc) p → (x y : Asked)
@@ -43,8 +43,8 @@ UsesEnd =
 
 -- ---- one value for each instance
 
--- the ways to an instance of a slot: a request at a place, a `get` of a Provider at a place, and the
--- content of the Lazy that was made at a place
+-- the ways to an instance of a slot: a request at a place, a `get` of a Provider at a place, and
+-- the content of the Lazy that was made at a place
 pub data Way : Type 0 where
   by_request : Place → Way
   by_provider : Place → Way
@@ -57,7 +57,8 @@ given_by doc d i k (by_provider q) = got_at doc (eval doc d) (Value-F.Provider i
 given_by doc d i k (by_lazy p) = lazy_content doc (eval doc d) i k p
 
 -- at each depth at which there is a result it is this one, and a depth of 128 is enough
-pub record ComesTo {A : Type 0} (at : ℕ → Run A) (r : Result A Failure) (asked : List Asked) : Type 0 where
+pub record ComesTo {A : Type 0} (at : ℕ → Run A) (r : Result A Failure) (asked : List Asked)
+    : Type 0 where
   pub same : (d : ℕ) → IsSome (at d) → at d ≡ Some (r, asked)
   pub is_there : (d : ℕ) → enough ≤ d → IsSome (at d)
 
@@ -78,8 +79,8 @@ pub record HasOneValue (doc : Doc) (i k : ℕ) : Type 0 where
       → look (eval doc d) (suc times) (value.Held i k)
       ≡ and_then (Some (result, cell i k ∷ [])) (look (eval doc d) times)
 
--- In an instance a scoped binding or a producer has one value: the same in whatever way and wherever
--- it is asked for.
+-- In an instance a scoped binding or a producer has one value: the same in whatever way and
+-- wherever it is asked for.
 abbrev pub OneValueForEachInstance : Type 0
 OneValueForEachInstance =
     (doc : Doc) → IsAccepted doc → (i k : ℕ) → is_cell doc k ≡ true → HasOneValue doc i k
@@ -91,7 +92,8 @@ abbrev pub IsProducerSlot : Doc → ℕ → Type 0
 IsProducerSlot doc k = option_map_or (is_producer doc) (node_at doc k) false ≡ true
 
 -- The content of a producer's cell has one result. A request for the outcome is given this result,
--- its value as the cell that holds it, and an `await` comes to the result itself.
+-- its value as the cell that holds it, and an `await` comes to the result itself, through however
+-- many links of a chain it may go.
 pub record HasOneContent (doc : Doc) (i k : ℕ) : Type 0 where
   pub result : Result Value Failure
   pub asked : List Asked

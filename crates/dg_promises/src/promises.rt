@@ -1,11 +1,13 @@
 //! What users of Dagger are promised of scoped bindings, of producers and of objects.
 
 ghost use Rattle.dg_promises.specs.Uses.{
-    IdentitiesDiffer, OneContentForEachProducer, OneValueForEachInstance,
+  IdentitiesDiffer,
+  OneContentForEachProducer,
+  OneValueForEachInstance,
 };
 
-/// In an accepted document a scoped binding or a producer has one value in each instance. A request,
-/// a `get` of a Provider and a `get` of a Lazy all come to it, wherever they stand.
+/// In an accepted document a scoped binding or a producer has one value in each instance. A
+/// request, a `get` of a Provider and a `get` of a Lazy all come to it, wherever they stand.
 pub fn one_value_for_each_instance()
     ensures exact { OneValueForEachInstance }
 {}
