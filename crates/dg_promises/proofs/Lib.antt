@@ -6,3 +6,5 @@ pub mod AskTraces
 pub mod HeldLaw
 pub mod WholeLemmas
 pub mod WholeLaw
+pub mod ShareLemmas
+pub mod IdentityLemmas
