@@ -91,8 +91,8 @@ OneValueForEachInstance =
 abbrev pub IsProducerSlot : Doc → ℕ → Type 0
 IsProducerSlot doc k = option_map_or (is_producer doc) (node_at doc k) false ≡ true
 
--- an `await` of a way to the slot l in the instance j comes to the cell of the slot k in i, behind at
--- most so many links of a chain
+-- an `await` of a way to the slot l in the instance j comes to the cell of the slot k in i, behind
+-- fewer links of a chain than this
 pub record AwaitLeads (doc : Doc) (times j l i k : ℕ) : Type 0 where
   pub production : option_map_or (is_production doc) (node_at doc l) false ≡ true
   pub chain_end : producer_from doc times j l ≡ gives (record { inst = i; slot = k })
