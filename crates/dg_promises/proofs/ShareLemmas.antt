@@ -32,7 +32,7 @@ use Rattle.dg_eval.proofs.CallLemmas.{calls_are_edges}
 use Rattle.dg_eval.proofs.PlaceLemmas.{placing}
 use Rattle.dg_eval.proofs.StandLemmas.{all_stand}
 use Rattle.dg_eval.specs.Laws.{IsPlaceOf}
-use Rattle.dg_promises.specs.Uses.{Way, by_request, by_provider, by_lazy, given_by, ComesTo, as_held, HasOneValue, OneValueForEachInstance, HasOneContent, OneContentForEachProducer}
+use Rattle.dg_promises.specs.Uses.{Way, by_request, by_provider, by_lazy, given_by, ComesTo, as_held, HasOneValue, OneValueForEachInstance, AwaitLeads, HasOneContent, OneContentForEachProducer}
 
 -- ---- at each depth
 
@@ -209,19 +209,22 @@ is_awaited : (doc : Doc) (n : Node) → Contains (nodes doc) n → is_producer d
 is_awaited doc n among h =
     (productions_by_short_walks doc n among).1 (n, root n (in_front n []), h)
 
-await_is : (doc : Doc) (f : Eval) (times i k : ℕ) (q : Place) (n : Node) → node_at doc k ≡ Some n
-    → is_producer doc n ≡ true
-    → and_then (awaited_slot doc f (suc times) i k q) (of_end f)
-    ≡ asking (cell i k) (content f i k)
-await_is doc f times i k q n is h =
-    let chosen : option_map_or (is_production doc) (node_at doc k) false ≡ true =
-    ap (λ o. option_map_or (is_production doc) o false) is
-    ∙ is_awaited doc n (in_got (nodes doc) k n is) h in
-    ap (λ b. and_then (cond b (and_then (producer_from doc (suc times) i k)
+leads_itself : (doc : Doc) (times i k : ℕ) (n : Node) → node_at doc k ≡ Some n
+    → is_producer doc n ≡ true → AwaitLeads doc (suc times) i k i k
+leads_itself doc times i k n is h = record {
+  production = ap (λ o. option_map_or (is_production doc) o false) is
+      ∙ is_awaited doc n (in_got (nodes doc) k n is) h;
+  chain_end = chain_ends doc times i k n is h;
+}
+
+await_is : (doc : Doc) (f : Eval) (times j l i k : ℕ) (q : Place) → AwaitLeads doc times j l i k
+    → and_then (awaited_slot doc f times j l q) (of_end f) ≡ asking (cell i k) (content f i k)
+await_is doc f times j l i k q leads =
+    ap (λ b. and_then (cond b (and_then (producer_from doc times j l)
     (λ (t : Target). gives (producer_end t.inst t.slot)))
-    (and_then (instance doc f i k q) (λ v. gives (value_end v)))) (of_end f)) chosen
+    (and_then (instance doc f j l q) (λ v. gives (value_end v)))) (of_end f)) leads.production
     ∙ (ap (λ x. and_then (and_then x (λ (t : Target). gives (producer_end t.inst t.slot))) (of_end
-    f)) (chain_ends doc times i k n is h)
+    f)) leads.chain_end
     ∙ before_nothing (asking (cell i k) (content f i k)))
 
 producer_is_cell : (doc : Doc) (k : ℕ) (n : Node) → node_at doc k ≡ Some n
@@ -242,9 +245,10 @@ one_content doc i k n is h c = record {
       (λ d. ap outcome_of
       (instance_in_cell doc (eval doc d) i k q (producer_is_cell doc k n is h)))
       refl (ap outcome_of (in_cell_is i k c.result c.asked)) (content_comes doc i k c);
-  awaited = λ times q. comes_made (λ d. content (eval doc d) i k) _ (asking (cell i k)) c.result
-      c.asked c.result (cell i k ∷ []) (λ d. await_is doc (eval doc d) times i k q n is h) refl
-      refl (content_comes doc i k c);
+  leads = λ times. leads_itself doc times i k n is h;
+  awaited = λ times j l q leads. comes_made (λ d. content (eval doc d) i k) _ (asking (cell i k))
+      c.result c.asked c.result (cell i k ∷ [])
+      (λ d. await_is doc (eval doc d) times j l i k q leads) refl refl (content_comes doc i k c);
 }
 
 pub one_content_for_each_producer : OneContentForEachProducer

@@ -8,7 +8,7 @@ use Rattle.dg_decl.specs.declared.binding.BindRef.TheVariants as binding
 use Rattle.dg_decl.specs.declared.graph.NodeKind.TheVariants as node
 use Rattle.dg_decl.specs.Diagnostics.{IsAccepted}
 use Rattle.dg_decl.specs.Graph.{node_of}
-use Rattle.dg_decl.specs.Sizes.{is_producer}
+use Rattle.dg_decl.specs.Sizes.{is_producer, is_production}
 use Rattle.dg_slots.specs.declared.session.Ask.{Ask}
 use Rattle.dg_value.specs.declared.place.Place.{Place}
 use Rattle.dg_value.specs.declared.place.PlaceStep.TheVariants as step
@@ -18,8 +18,8 @@ use Rattle.dg_value.specs.declared.value.Value.{Value, out-Value}
 use Rattle.dg_value.specs.declared.value.Value.TheVariants as value
 use Rattle.dg_value.specs.Places.{then_step}
 use Rattle.dg_value.specs.Same.{Layer, same_element}
-use Rattle.dg_eval.specs.Runs.{Asked, cell, Run, and_then, as_outcome, asks_of}
-use Rattle.dg_eval.specs.Meaning.{node_at, is_cell, cell_place, lazy_content, give, got_at, look, awaited_slot, of_end, eval, enough, content_of}
+use Rattle.dg_eval.specs.Runs.{Asked, cell, Run, gives, and_then, as_outcome, asks_of}
+use Rattle.dg_eval.specs.Meaning.{node_at, is_cell, cell_place, lazy_content, give, got_at, look, producer_from, awaited_slot, of_end, eval, enough, content_of}
 use Rattle.dg_eval.specs.Asks.{run_of_ask, answer_to, numbered_asks, used, used_by_ask}
 use Rattle.dg_eval.specs.Report.{value_of_run}
 
@@ -91,17 +91,24 @@ OneValueForEachInstance =
 abbrev pub IsProducerSlot : Doc → ℕ → Type 0
 IsProducerSlot doc k = option_map_or (is_producer doc) (node_at doc k) false ≡ true
 
+-- an `await` of a way to the slot l in the instance j comes to the cell of the slot k in i, behind
+-- fewer links of a chain than this
+pub record AwaitLeads (doc : Doc) (times j l i k : ℕ) : Type 0 where
+  pub production : option_map_or (is_production doc) (node_at doc l) false ≡ true
+  pub chain_end : producer_from doc times j l ≡ gives (record { inst = i; slot = k })
+
 -- The content of a producer's cell has one result. A request for the outcome is given this result,
--- its value as the cell that holds it, and an `await` comes to the result itself, through however
--- many links of a chain it may go.
+-- its value as the cell that holds it. Each `await` that comes to the cell, as one of a way to the
+-- producer itself does, comes to the result itself.
 pub record HasOneContent (doc : Doc) (i k : ℕ) : Type 0 where
   pub result : Result Value Failure
   pub asked : List Asked
   pub content : content_of doc i k ≡ Some (result, asked)
   pub produced : (q : Place) → ComesTo (λ d. give doc (eval doc d) mode.Produced i k q)
       (Ok (as_outcome (as_held i k result))) (cell i k ∷ [])
-  pub awaited : (times : ℕ) (q : Place) → ComesTo
-      (λ d. and_then (awaited_slot doc (eval doc d) (suc times) i k q) (of_end (eval doc d)))
+  pub leads : (times : ℕ) → AwaitLeads doc (suc times) i k i k
+  pub awaited : (times j l : ℕ) (q : Place) → AwaitLeads doc times j l i k → ComesTo
+      (λ d. and_then (awaited_slot doc (eval doc d) times j l q) (of_end (eval doc d)))
       result (cell i k ∷ [])
 
 -- in an instance a producer has one content, and all who ask for it see what became of it
