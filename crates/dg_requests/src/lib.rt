@@ -5,11 +5,13 @@
 mod below;
 mod cells;
 mod context;
+mod failing;
 mod layers;
 mod stop;
 
 pub use below::{Below, Deeper};
 pub use cells::Cells;
 pub use context::{Target, bound_value, is_cell, producer_behind, slot_in, target_at};
+pub use failing::{failed, mistyped};
 pub use layers::{InScope, content, held, inside_lazy, instance, look};
 pub use stop::Stop;
