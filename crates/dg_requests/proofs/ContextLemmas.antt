@@ -102,7 +102,7 @@ enumerated_at f m (x ∷ xs) (suc i) =
     enumerated_at f (m + 1) xs i
     ∙ ap (λ (k : ℕ). option_map (λ x. f (k, x)) (slice_get xs i)) e
 
-first_enumerated : {A B : Type 0} (f : (ℕ × A) → B) (xs : List A) (i : ℕ)
+pub first_enumerated : {A B : Type 0} (f : (ℕ × A) → B) (xs : List A) (i : ℕ)
     → slice_get (map f (enumerate_from 0 xs)) i ≡ option_map (λ x. f (i, x)) (slice_get xs i)
 first_enumerated f xs i =
     let e : 0 + i ≡ i = omega arith in

@@ -6,3 +6,4 @@ pub mod Passing
 pub mod Behind
 pub mod RanLemmas
 pub mod LayerLemmas
+pub mod GivingLemmas

@@ -23,6 +23,8 @@ use Rattle.dg_slots.specs.declared.plan.Input.{Input}
 use Rattle.dg_slots.specs.declared.plan.Plan.{Plan}
 use Rattle.dg_slots.specs.declared.plan.Slot.{Slot}
 use Rattle.dg_slots.specs.Plans.{inputs_of, plan_of}
+use Rattle.dg_value.specs.declared.place.PlaceStep.{PlaceStep}
+use Rattle.dg_value.specs.declared.place.PlaceStep.TheVariants as step
 use Rattle.dg_value.specs.declared.value.Value.{Value}
 use Rattle.dg_eval.specs.declared.world.World.{World}
 use Rattle.dg_eval.specs.Runs.{gives}
@@ -92,6 +94,13 @@ is_first_param_at other = false
 abbrev pub gives_first_param_at : NTree-F NTree → Bool
 gives_first_param_at (NTree-F.Leaf e) = is_first_param_at (out-NExpr e)
 gives_first_param_at other = false
+
+-- the step from the place of a slot to that of its input of this number, counted from 1
+abbrev pub step_of : Body → ℕ → PlaceStep
+step_of (body.Set flags) m = step.Elem m
+step_of (body.Map keys) m = step.Elem m
+step_of (body.Opt present) m = step.Inside
+step_of other m = step.Arg m
 
 -- a body gives its first parameter
 abbrev pub gives_first_param : Body → Bool

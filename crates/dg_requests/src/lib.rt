@@ -6,6 +6,7 @@ mod below;
 mod cells;
 mod context;
 mod failing;
+mod giving;
 mod layers;
 mod stop;
 
@@ -13,5 +14,6 @@ pub use below::{Below, Deeper};
 pub use cells::Cells;
 pub use context::{Target, bound_value, is_cell, producer_behind, slot_in, target_at};
 pub use failing::{failed, mistyped};
+pub use giving::give;
 pub use layers::{InScope, content, held, inside_lazy, instance, look};
 pub use stop::Stop;
