@@ -6,4 +6,5 @@ pub mod Passing
 pub mod Behind
 pub mod RanLemmas
 pub mod LayerLemmas
+pub mod AllRuns
 pub mod GivingLemmas
