@@ -1,27 +1,26 @@
 -- All of some runs, as far as they were made.
-use Rattle.std.proofs.Common.{◌≡◌, ◌≢◌, ℕ, zero, suc, List, [], ◌∷◌, ◌++◌, take, drop, slice_get, length, ◌<◌, ◌≤◌, Option, Some, None, Result, Ok, Err, Contains, inl, inr, refl, sym, ap, subst, ◌∙◌, append_assoc, append-nil, arith}
+use Rattle.std.proofs.Common.{◌≡◌, ℕ, zero, suc, ◌+◌, List, [], ◌∷◌, ◌++◌, take, drop, slice_get, Option, Some, None, Result, Ok, Err, Contains, inl, inr, refl, sym, ap, subst, ◌∙◌, append_assoc, append-nil, arith}
 use Rattle.std.proofs.lemmas.List.Elements.{Contains-append_left, Contains-append_right, Contains-append_cases}
 use Rattle.std.proofs.lemmas.List.{take-append-drop}
 use Rattle.std.proofs.lemmas.Option.{none-some, same_Some}
-use Rattle.dg_decl.specs.declared.document.Doc.{Doc}
 use Rattle.dg_value.specs.declared.value.Failure.{Failure}
 use Rattle.dg_value.specs.declared.value.Value.{Value}
 use Rattle.dg_eval.specs.Runs.{Asked, Run, first_failure, both, all, asks_of}
 use Rattle.dg_requests.specs.declared.stop.Stop.{Stop}
 use Rattle.dg_requests.specs.declared.stop.Stop.TheVariants as stop
-use Rattle.dg_requests.specs.Scopes.{Scope, AllUsed, Exactly, Told}
-use Rattle.dg_requests.specs.Results.{MayAsk, CanRun, Gave, Ran, IsOrLacks, joined}
+use Rattle.dg_requests.specs.Scopes.{Scope, AllUsed, Told}
+use Rattle.dg_requests.specs.Results.{CanRun, Ran, IsOrLacks, joined}
 use Rattle.dg_requests.proofs.RanLemmas.{can_as, can_both_first, can_both_rest, ran_as, told_weaker, told_join, used_join, exactly_join, none_asked}
 
 -- ---- one run more
 
 -- the results of some runs, and of one more
-after_first : {A : Type 0} → Result (List A) Failure → Result A Failure → Result (List A) Failure
+abbrev after_first : {A : Type 0} → Result (List A) Failure → Result A Failure → Result (List A) Failure
 after_first (Ok vs) (Ok v) = Ok (vs ++ v ∷ [])
 after_first (Ok vs) (Err f) = Err f
 after_first (Err f) r = Err f
 
-with_one : {A : Type 0} → Run (List A) → Run A → Run (List A)
+abbrev with_one : {A : Type 0} → Run (List A) → Run A → Run (List A)
 with_one None r = None
 with_one (Some x) None = None
 with_one (Some (a, xs)) (Some (b, ys)) = Some (after_first a b, xs ++ ys)
@@ -210,11 +209,17 @@ ran_next s rs r x y z so_far result next can h k is =
 
 -- ---- as far as an index
 
-pub taken_next : {A : Type 0} (rs : List A) (m : ℕ) (r : A) → slice_get rs m ≡ Some r
+taken_suc : {A : Type 0} (rs : List A) (m : ℕ) (r : A) → slice_get rs m ≡ Some r
     → take (suc m) rs ≡ take m rs ++ r ∷ []
-taken_next [] m r e = absurd (none-some r e)
-taken_next (q ∷ rs) zero r e = ap (λ u. u ∷ []) (same_Some q r e)
-taken_next (q ∷ rs) (suc m) r e = ap (λ l. q ∷ l) (taken_next rs m r e)
+taken_suc [] m r e = absurd (none-some r e)
+taken_suc (q ∷ rs) zero r e = ap (λ u. u ∷ []) (same_Some q r e)
+taken_suc (q ∷ rs) (suc m) r e = ap (λ l. q ∷ l) (taken_suc rs m r e)
+
+taken_next : {A : Type 0} (rs : List A) (m : ℕ) (r : A) → slice_get rs m ≡ Some r
+    → take (m + 1) rs ≡ take m rs ++ r ∷ []
+taken_next rs m r e =
+    let one : m + 1 ≡ suc m = omega arith in
+    ap (λ k. take k rs) one ∙ taken_suc rs m r e
 
 pub can_taken : {A : Type 0} (s : Scope) (rs : List (Run A)) (m : ℕ) → CanRun s (all rs)
     → CanRun s (all (take m rs))
@@ -227,12 +232,12 @@ pub ran_at_index : (s : Scope) (rs : List (Run Value)) (m : ℕ) (r : Run Value)
     → (x y z : Option (List Asked)) (so_far result : Result (List Value) Stop)
     → (next : Result Value Stop) → slice_get rs m ≡ Some r → CanRun s (all rs)
     → Ran s (all (take m rs)) x y so_far → Ran s r y z next
-    → IsOrLacks (joined so_far next) result → Ran s (all (take (suc m) rs)) x z result
+    → IsOrLacks (joined so_far next) result → Ran s (all (take (m + 1) rs)) x z result
 ran_at_index s rs m r x y z so_far result next e can h k is =
     let to = taken_next rs m r e in
-    ran_as s (all (take m rs ++ r ∷ [])) (all (take (suc m) rs)) x z result (ap all (sym to))
+    ran_as s (all (take m rs ++ r ∷ [])) (all (take (m + 1) rs)) x z result (ap all (sym to))
     (ran_next s (take m rs) r x y z so_far result next
-    (can_as s (all (take (suc m) rs)) _ (ap all to) (can_taken s rs (suc m) can)) h k is)
+    (can_as s (all (take (m + 1) rs)) _ (ap all to) (can_taken s rs (m + 1) can)) h k is)
 
 -- memory lacks at an index
 pub ran_lacks_at : {A : Type 0} (s : Scope) (rs : List (Run A)) (m : ℕ) (x y : Option (List Asked))

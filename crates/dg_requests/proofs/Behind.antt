@@ -46,7 +46,7 @@ passed_parts false true o x e =
     let two = if_some (is_instance w.0.mode) w.0 x w.2 in
     (refl, refl, w.1 ∙ ap Some two.1, ap (λ (x : Input). is_instance x.mode) (sym two.1) ∙ two.0)
 
-input_mode : (doc : Doc) (n : Node) (d : Dependency) (x : Input) → input_of doc n d ≡ Some x
+pub input_mode : (doc : Doc) (n : Node) (d : Dependency) (x : Input) → input_of doc n d ≡ Some x
     → x.mode ≡ d.mode
 input_mode doc n d x e =
     let t = out_and_then _ (target d) x e in
