@@ -8,3 +8,4 @@ pub mod RanLemmas
 pub mod LayerLemmas
 pub mod AllRuns
 pub mod GivingLemmas
+pub mod CallLemmas

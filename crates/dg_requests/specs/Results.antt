@@ -9,6 +9,9 @@ use Rattle.dg_value.specs.declared.value.Value.TheVariants as value
 use Rattle.dg_value.specs.declared.value.Kept.TheOpen.{Value-F}
 use Rattle.dg_value.specs.Same.{Layer}
 use Rattle.dg_eval.specs.Runs.{Asked, Run, asks_of}
+use Rattle.dg_eval.specs.Bodies.{End as Ending, value_end, producer_end}
+use Rattle.dg_requests.specs.declared.calls.End.{End}
+use Rattle.dg_requests.specs.declared.calls.End.TheVariants as end
 use Rattle.dg_requests.specs.declared.stop.Stop.{Stop}
 use Rattle.dg_requests.specs.declared.stop.Stop.TheVariants as stop
 use Rattle.dg_requests.specs.Scopes.{Scope, AllUsed, Exactly, Told}
@@ -76,3 +79,12 @@ joined (Ok vs) (Ok v) = Ok (vs ++ v ∷ [])
 joined (Ok vs) (Err e) = Err e
 joined (Err e) (Err stop.NoMemory) = Err stop.NoMemory
 joined (Err e) other = Err e
+
+-- where a decision tree ends, as the definitions have it
+abbrev pub as_end : End → Ending
+as_end (end.Value v) = value_end v
+as_end (end.Producer i k) = producer_end i k
+
+abbrev pub ends : Result End Stop → Result Ending Stop
+ends (Ok e) = Ok (as_end e)
+ends (Err e) = Err e
