@@ -28,18 +28,8 @@ use Rattle.dg_requests.proofs.ContextLemmas.{in_class_is}
 
 -- ---- ends in values
 
-abbrev pub in_value : Run Value → Run Ending
+abbrev in_value : Run Value → Run Ending
 in_value r = and_then r (λ v. gives (value_end v))
-
-pub ran_in_value : (s : Scope) (r : Run Value) (v : Value) (x y : Option (List Asked))
-    → CanRun s (in_value r) → Ran s r x y (Ok v) → Ran s (in_value r) x y (Ok (value_end v))
-ran_in_value s r v x y can h =
-    ran_then s r (λ v. gives (value_end v)) v x y y (Ok (value_end v)) can h
-    (ran_plain s (gives (value_end v)) y (Ok (value_end v)) refl refl)
-
-pub stops_in_value : (s : Scope) (r : Run Value) (e : Stop) (x y : Option (List Asked))
-    → CanRun s (in_value r) → Ran s r x y (Err e) → Ran s (in_value r) x y (Err e)
-stops_in_value s r e x y can h = ran_stops s r (λ v. gives (value_end v)) e x y can h
 
 -- ---- where an `await` of a way to a slot leads
 
@@ -55,14 +45,6 @@ awaits doc f times i k q n b is same =
     ∙ ap (λ (b : Bool). cond b
     (and_then (producer_from doc times i k) (λ t. gives (producer_end t.inst t.slot)))
     (in_value (instance doc f i k q))) same
-
-no_producer_behind : (doc : Doc) (i k : ℕ) (n : Node) → IsBehind doc i k n None
-    → is_production doc n ≡ false
-no_producer_behind doc i k n h = by_test (is_production doc n) refl
-  where
-    by_test : (b : Bool) → is_production doc n ≡ b → is_production doc n ≡ false
-    by_test false e = e
-    by_test true e = (let w = h.some e in absurd (none-some w.0 w.1))
 
 -- the producer behind a production
 record IsFound (doc : Doc) (i k : ℕ) (n : Node) (t : Target) : Type 0 where
@@ -81,15 +63,6 @@ producer_found doc i k n t h = by_test (is_production doc n) refl
           production = e;
           producer = subst (λ (u : Target). IsProducerOf doc i k u) (sym (same_Some t w.0 w.1)) w.2;
         }
-
--- an `await` of a slot behind which no producer stands
-pub awaits_value : (doc : Doc) (f : Eval) (times i k : ℕ) (q : Place) (n : Node)
-    → (o : Option Target) → node_in doc i k ≡ Some n → o ≡ None → IsBehind doc i k n o
-    → awaited_slot doc f times i k q ≡ in_value (instance doc f i k q)
-awaits_value doc f times i k q n o is none h =
-    let P : Option Target → Type 0 = λ o. IsBehind doc i k n o in
-    awaits doc f times i k q n false (in_class_is doc i k n is).0
-    (no_producer_behind doc i k n (subst P none h))
 
 run_there : {A : Type 0} (s : Scope) (r : Run A) → CanRun s r → r ≢ None
 run_there s None h e = absurd h.may

@@ -237,7 +237,7 @@ pub record FindsTarget (doc : Doc) (world : World) (i : ℕ) (n : Node) (d : Dep
   pub found : Node
   pub is_found : node_in doc inst x.slot ≡ Some found
 
-in_its_class : (doc : Doc) (i k : ℕ) (n : Node) → class_of_inst doc i ≡ Some n.class
+pub in_its_class : (doc : Doc) (i k : ℕ) (n : Node) → class_of_inst doc i ≡ Some n.class
     → node_at doc k ≡ Some n → node_in doc i k ≡ Some n
 in_its_class doc i k n class is =
     (λ j. option_and_then (λ (m : Node). cond (is_number m.class (class j)) (Some m) None) (is j))

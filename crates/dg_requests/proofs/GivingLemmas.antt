@@ -146,7 +146,7 @@ pub record GivesInput (doc : Doc) (f : Eval) (i k m : ℕ) (n : Node) (q : Place
       → slice_get (given doc f i n q) m
       ≡ Some (give doc f x.mode t.inst t.slot (then_step q (step_of s.body (suc m))))
 
-run_at : (doc : Doc) (f : Eval) (i m : ℕ) (n : Node) (q : Place) (d : Dependency)
+pub run_at : (doc : Doc) (f : Eval) (i m : ℕ) (n : Node) (q : Place) (d : Dependency)
     → slice_get (deps doc n) m ≡ Some d
     → slice_get (given doc f i n q) m ≡ Some (given_one doc f i n q (suc m) d)
 run_at doc f i m n q d e =

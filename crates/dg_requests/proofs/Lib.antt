@@ -9,3 +9,4 @@ pub mod LayerLemmas
 pub mod AllRuns
 pub mod GivingLemmas
 pub mod CallLemmas
+pub mod Awaits
