@@ -1,6 +1,6 @@
 -- What a body calls fits an `await`: it is a way to a slot that is no entry and, where that is a
 -- production, to what a binding gives.
-use Rattle.std.proofs.Common.{◌≡◌, ℕ, Bool, true, false, ◌||◌, filter_map, slice_get, Contains, Option, Some, None, refl, sym, ap, subst, ◌∙◌}
+use Rattle.std.proofs.Common.{◌≡◌, ℕ, zero, suc, Bool, true, false, ◌||◌, List, [], ◌∷◌, filter_map, slice_get, Contains, Option, Some, None, option_map, Result, Ok, Err, refl, sym, ap, subst, ◌∙◌}
 use Rattle.std.specs.Option.{option_map_or}
 use Rattle.std.proofs.lemmas.Bool.{false≢true}
 use Rattle.std.proofs.lemmas.Option.{none-some, same_Some}
@@ -32,9 +32,11 @@ use Rattle.dg_value.specs.declared.place.Place.{Place}
 use Rattle.dg_value.specs.declared.value.Kept.TheOpen.{Value-F}
 use Rattle.dg_value.specs.declared.value.Value.{Value, out-Value}
 use Rattle.dg_value.specs.declared.value.Value.TheVariants as value
+use Rattle.dg_value.specs.Places.{then_step}
 use Rattle.dg_value.specs.Same.{Layer}
 use Rattle.dg_eval.specs.At.{calls_of}
-use Rattle.dg_eval.specs.Meaning.{node_in, Target as Look, target_of}
+use Rattle.dg_eval.specs.Runs.{Run, both, all, mistyped}
+use Rattle.dg_eval.specs.Meaning.{node_in, Eval, Target as Look, give, step_to, target_of, given_one, given}
 use Rattle.dg_eval.proofs.AcceptedDepth.{stages_of_accepted, found_no_entry}
 use Rattle.dg_eval.proofs.CallLemmas.{calls_are_edges}
 use Rattle.dg_eval.proofs.InputLemmas.{inputs_are_look_ups}
@@ -44,6 +46,7 @@ use Rattle.dg_eval.proofs.TotalLemmas.{Spot, IsDeferred, FitsMode}
 use Rattle.dg_eval.proofs.ValueLemmas.{out_provider, out_provider_lazy, out_lazy}
 use Rattle.dg_requests.specs.Contexts.{IsBound, LeadsOn, AwaitFits}
 use Rattle.dg_requests.proofs.ContextLemmas.{in_class_is, in_its_class}
+use Rattle.dg_requests.proofs.GivingLemmas.{runs_at}
 use Rattle.dg_requests.proofs.LookUps.{needs_lead}
 use Rattle.dg_requests.proofs.Passing.{is_never, bound_only, rule_holds}
 
@@ -257,3 +260,98 @@ called_fits doc accepted L i k p n d t v is called got to fits =
     by_provider doc accepted n.class n.kind p d x among called c found how production))
     (λ how. leads_on doc accepted i k p n d t is got to (λ x found production.
     by_producer doc n.class n.kind p d x called c found how))
+
+-- ---- what all inputs are given
+
+-- any place
+abbrev Anywhere : Spot
+Anywhere i s q = Unit {0}
+
+-- a run gave this
+abbrev Gives : {A : Type 0} → Run A → A → Type 0
+Gives r a = option_map (λ p. p.0) r ≡ Some (Ok a)
+
+give_fits : (doc : Doc) (f : Eval) (m : Mode) (t : Look) (q : Place) (v : Value)
+    → Gives (give doc f m t.inst t.slot q) v → FitsMode Anywhere m t v
+give_fits doc f mode.Provider t q v g = cc
+give_fits doc f mode.Producer t q v g = cc
+give_fits doc f mode.ProviderLazy t q v g = cc
+give_fits doc f mode.Lazy t q v g = (q, cc, tt)
+give_fits doc f mode.Instance t q v g = tt
+give_fits doc f mode.Produced t q v g = tt
+
+-- the first of some runs, and those behind it
+record Front {A : Type 0} (r : Run A) (o : Run (List A)) (vs : List A) : Type 0 where
+  first : A
+  more : List A
+  are : vs ≡ first ∷ more
+  of_first : Gives r first
+  of_more : Gives o more
+
+front_of : {A : Type 0} (r : Run A) (o : Run (List A)) (vs : List A) → Gives (both r o) vs
+    → Front r o vs
+front_of None o vs g = cc
+front_of (Some r) None vs g = cc
+front_of (Some (Ok a, xs)) (Some (Ok more, ys)) vs g =
+    record { first = a; more = more; are = cc; of_first = refl; of_more = refl }
+front_of (Some (Ok a, xs)) (Some (Err f, ys)) vs g = cc
+front_of (Some (Err f, xs)) (Some (b, ys)) vs g = cc
+
+-- each value is that of the run of its index
+value_at : {A : Type 0} (rs : List (Run A)) (vs : List A) (m : ℕ) (v : A) → Gives (all rs) vs
+    → slice_get vs m ≡ Some v → (r : Run A) × (slice_get rs m ≡ Some r) × Gives r v
+value_at [] [] m v g e = absurd (none-some v e)
+value_at [] (w ∷ ws) m v g e = cc
+value_at (r ∷ rs) vs zero v g e =
+    let w = front_of r (all rs) vs g in
+    let same : w.first ≡ v = same_Some w.first v (sym (ap (λ l. slice_get l 0) w.are) ∙ e) in
+    (r, refl, w.of_first ∙ ap (λ u. Some (Ok u)) same)
+value_at (r ∷ rs) vs (suc m) v g e =
+    let w = front_of r (all rs) vs g in
+    value_at rs w.more m v w.of_more (sym (ap (λ l. slice_get l (suc m)) w.are) ∙ e)
+
+-- the value that is given for a dependency
+record GivenFor (doc : Doc) (i m : ℕ) (n : Node) (v : Value) : Type 0 where
+  dependency : Dependency
+  is_dependency : slice_get (deps doc n) m ≡ Some dependency
+  to : Look
+  is_target : target_of doc i n dependency ≡ Some to
+  fits : FitsMode Anywhere dependency.mode to v
+
+given_for : (doc : Doc) (f : Eval) (i m : ℕ) (n : Node) (q : Place) (vs : List Value) (v : Value)
+    → Gives (all (given doc f i n q)) vs → slice_get vs m ≡ Some v → GivenFor doc i m n v
+given_for doc f i m n q vs v g e =
+    let r = value_at (given doc f i n q) vs m v g e in
+    let d = out_option_map (λ (d : Dependency). given_one doc f i n q (suc m) d)
+    (slice_get (deps doc n) m) r.0 (sym (runs_at doc f i m n q) ∙ r.1) in
+    by_target d.0 d.1 (ap (λ (r : Run Value). option_map (λ p. p.0) r) d.2 ∙ r.2)
+    (target_of doc i n d.0) refl
+  where
+    by_target : (d : Dependency) → slice_get (deps doc n) m ≡ Some d
+        → Gives (given_one doc f i n q (suc m) d) v → (o : Option Look) → target_of doc i n d ≡ o
+        → GivenFor doc i m n v
+    by_target d is g None to =
+        let none = ap (λ (o : Option Look). option_map_or (λ (t : Look). give doc f d.mode t.inst
+        t.slot (then_step q (step_to n.kind (suc m)))) o mistyped) to in
+        let h = sym (ap (λ (r : Run Value). option_map (λ p. p.0) r) none) ∙ g in cc
+    by_target d is g (Some t) to =
+        let some = ap (λ (o : Option Look). option_map_or (λ (t : Look). give doc f d.mode t.inst
+        t.slot (then_step q (step_to n.kind (suc m)))) o mistyped) to in
+        record {
+          dependency = d;
+          is_dependency = is;
+          to = t;
+          is_target = to;
+          fits = give_fits doc f d.mode t (then_step q (step_to n.kind (suc m))) v
+              (sym (ap (λ (r : Run Value). option_map (λ p. p.0) r) some) ∙ g);
+        }
+
+-- where all inputs were given something, what a called parameter was given may be awaited
+pub given_fits : (doc : Doc) → IsAccepted doc → (f : Eval) (i k p : ℕ) (n : Node) (q : Place)
+    → (vs : List Value) (v : Value) → node_in doc i k ≡ Some n → Contains (calls_of doc n) p
+    → option_map (λ p. p.0) (all (given doc f i n q)) ≡ Some (Ok vs) → slice_get vs p ≡ Some v
+    → AwaitFits doc v
+given_fits doc accepted f i k p n q vs v is called g e =
+    let w = given_for doc f i p n q vs v g e in
+    called_fits doc accepted Anywhere i k p n w.dependency w.to v is called w.is_dependency
+    w.is_target w.fits

@@ -146,12 +146,11 @@ pub record GivesInput (doc : Doc) (f : Eval) (i k m : ℕ) (n : Node) (q : Place
       → slice_get (given doc f i n q) m
       ≡ Some (give doc f x.mode t.inst t.slot (then_step q (step_of s.body (suc m))))
 
-pub run_at : (doc : Doc) (f : Eval) (i m : ℕ) (n : Node) (q : Place) (d : Dependency)
-    → slice_get (deps doc n) m ≡ Some d
-    → slice_get (given doc f i n q) m ≡ Some (given_one doc f i n q (suc m) d)
-run_at doc f i m n q d e =
+pub runs_at : (doc : Doc) (f : Eval) (i m : ℕ) (n : Node) (q : Place)
+    → slice_get (given doc f i n q) m
+    ≡ option_map (λ (d : Dependency). given_one doc f i n q (suc m) d) (slice_get (deps doc n) m)
+runs_at doc f i m n q =
     first_enumerated (λ (p : ℕ × Dependency). given_one doc f i n q (suc p.0) p.1) (deps doc n) m
-    ∙ ap (option_map (λ (d : Dependency). given_one doc f i n q (suc m) d)) e
 
 run_to : (doc : Doc) (f : Eval) (i m : ℕ) (n : Node) (q : Place) (d : Dependency) (x : Input)
     → (s : Slot) (l : Look) → x.mode ≡ d.mode → s ≡ slot_of doc n → Some l ≡ target_of doc i n d
@@ -179,7 +178,8 @@ gives_input doc accepted f i k m n q s xs x is same list here =
     record {
       dependency = d.0;
       is_input = record { is_node = is; is_dependency = d.1; is_input = is_input };
-      run = λ t to. run_at doc f i m n q d.0 d.1
+      run = λ t to. runs_at doc f i m n q
+          ∙ ap (option_map (λ (d : Dependency). given_one doc f i n q (suc m) d)) d.1
           ∙ ap Some (run_to doc f i m n q d.0 x s (as_look t) (input_mode doc n d.0 x d.2) same to);
     }
 
