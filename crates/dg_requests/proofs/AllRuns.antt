@@ -15,7 +15,8 @@ use Rattle.dg_requests.proofs.RanLemmas.{can_as, can_both_first, can_both_rest, 
 -- ---- one run more
 
 -- the results of some runs, and of one more
-abbrev after_first : {A : Type 0} → Result (List A) Failure → Result A Failure → Result (List A) Failure
+abbrev after_first : {A : Type 0} → Result (List A) Failure → Result A Failure
+    → Result (List A) Failure
 after_first (Ok vs) (Ok v) = Ok (vs ++ v ∷ [])
 after_first (Ok vs) (Err f) = Err f
 after_first (Err f) r = Err f
@@ -172,7 +173,8 @@ ran_with s (Some (a, xs)) (Some (b, ys)) x y z (Err stop.NoMemory) (Err (stop.Fa
       gave = tt;
       asked = told_join _ _ _ x y z (λ m n p q. used_join s.doc xs ys m n p q.used) h.asked k.asked;
     }
-ran_with s (Some (a, xs)) (Some (b, ys)) x y z so_far (Err stop.NoMemory) can h k = by_first so_far h
+ran_with s (Some (a, xs)) (Some (b, ys)) x y z so_far (Err stop.NoMemory) can h k =
+    by_first so_far h
   where
     told : (so_far : Result (List Value) Stop) → Ran s (Some (a, xs)) x y so_far
         → Told x z (AllUsed s.doc (xs ++ ys))

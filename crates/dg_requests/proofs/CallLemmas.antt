@@ -114,7 +114,8 @@ pub got_nothing : (s : Scope) (f : Eval) (q : Place) (v : Value) (x : Option (Li
     → Ran s (got_at s.doc f (out-Value v) q) x x result
 got_nothing s f q v x result a b c h =
     ran_as s mistyped (got_at s.doc f (out-Value v) q) x x result
-    (sym (got_nothing_at s.doc f q v (out-Value v) refl a b c)) (ran_plain s mistyped x result refl h)
+    (sym (got_nothing_at s.doc f q v (out-Value v) refl a b c))
+    (ran_plain s mistyped x result refl h)
 
 awaits_nothing_at : (doc : Doc) (f : Eval) (times : ℕ) (q : Place) (v : Value) (l : Layer)
     → out-Value v ≡ l → ((i k : ℕ) → v ≡ value.Provider i k → ⊥)

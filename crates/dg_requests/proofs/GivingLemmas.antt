@@ -1,10 +1,11 @@
 -- What is given in each mode, and what all inputs are given.
-use Rattle.std.proofs.Common.{◌≡◌, ◌≤◌, ℕ, suc, List, length, map, slice_get, take, Option, Some, None, IsSome, option_map, Result, Ok, Err, refl, sym, ap, subst, ◌∙◌, arith}
+use Rattle.std.proofs.Common.{◌≡◌, ◌<◌, ◌≤◌, ℕ, suc, List, length, map, slice_get, get_or, take, Option, Some, None, IsSome, option_map, Result, Ok, Err, refl, sym, ap, subst, ◌∙◌, arith}
 use Rattle.std.specs.List.{enumerate_from}
 use Rattle.std.specs.Option.{option_map_or}
 use Rattle.std.proofs.lemmas.List.{length-map, take_all}
 use Rattle.std.proofs.lemmas.List.FromFn.{length-enumerate_from}
 use Rattle.std.proofs.lemmas.Bool.{false≢true}
+use Rattle.std.proofs.lemmas.Option.{slice_get-get_or}
 use Rattle.dg_types.specs.declared.key.Core.{Core}
 use Rattle.dg_types.specs.declared.key.Core.TheVariants as core
 use Rattle.dg_types.specs.declared.key.Key.{Key}
@@ -47,7 +48,7 @@ use Rattle.dg_requests.specs.Results.{CanRun, Ran, result_of, BecomesOutcome}
 use Rattle.dg_requests.specs.Contexts.{IsContextOf, IsInputFor, as_look, step_of}
 use Rattle.dg_requests.proofs.RanLemmas.{ran_as, told_weaker}
 use Rattle.dg_requests.proofs.ContextLemmas.{first_enumerated, in_class_is}
-use Rattle.dg_requests.proofs.Behind.{input_mode}
+use Rattle.dg_requests.proofs.Behind.{input_mode, slot_is}
 
 -- ---- outcomes
 
@@ -63,13 +64,19 @@ outcome_is s None x y (kept.Failed f) h = (let e = h.gave in cc)
 outcome_is s (Some (Ok w, asks)) x y (kept.Value v) h =
     let e = h.gave in
     let same : w ≡ v = cc in
-    record { gave = ap (λ (u : Value). Some (Ok (value.Outcome (kept.Value u)))) same; asked = h.asked }
+    record {
+      gave = ap (λ (u : Value). Some (Ok (value.Outcome (kept.Value u)))) same;
+      asked = h.asked;
+    }
 outcome_is s (Some (Err f, asks)) x y (kept.Value v) h = (let e = h.gave in cc)
 outcome_is s (Some (Ok w, asks)) x y (kept.Failed f) h = (let e = h.gave in cc)
 outcome_is s (Some (Err g, asks)) x y (kept.Failed f) h =
     let e = h.gave in
     let same : g ≡ f = cc in
-    record { gave = ap (λ (u : Failure). Some (Ok (value.Outcome (kept.Failed u)))) same; asked = h.asked }
+    record {
+      gave = ap (λ (u : Failure). Some (Ok (value.Outcome (kept.Failed u)))) same;
+      asked = h.asked;
+    }
 
 -- memory lacks for the outcome, whatever the run came to
 outcome_lacks : (s : Scope) (r : Run Value) (x y : Option (List Asked)) (came : Result Value Stop)
@@ -165,7 +172,7 @@ run_to doc f i m n q d x s l mode same to =
     (sym (ap (λ (s : Slot). step_of s.body (suc m)) same
     ∙ step_of_kind doc n.class (suc m) n.kind))
 
-pub gives_input : (doc : Doc) → IsAccepted doc → (f : Eval) (i k m : ℕ) (n : Node) (q : Place)
+gives_input : (doc : Doc) → IsAccepted doc → (f : Eval) (i k m : ℕ) (n : Node) (q : Place)
     → (s : Slot) (xs : List Input) (x : Input) → node_in doc i k ≡ Some n → s ≡ slot_of doc n
     → xs ≡ s.inputs → slice_get xs m ≡ Some x → GivesInput doc f i k m n q s x
 gives_input doc accepted f i k m n q s xs x is same list here =
@@ -183,6 +190,15 @@ gives_input doc accepted f i k m n q s xs x is same list here =
           ∙ ap Some (run_to doc f i m n q d.0 x s (as_look t) (input_mode doc n d.0 x d.2) same to);
     }
 
+-- the same, as the code sees the slot and its inputs
+pub input_here : (doc : Doc) (plan : Plan) (world : World) → IsContextOf doc plan world
+    → (f : Eval) (i k m : ℕ) (n : Node) (q : Place) (s : Slot) (xs : List Input) (x : Input)
+    → node_in doc i k ≡ Some n → Some s ≡ option_map (slot_of doc) (node_in doc i k)
+    → xs ≡ s.inputs → m < length xs → GivesInput doc f i k m n q s (get_or xs m x)
+input_here doc plan world of f i k m n q s xs x is slot list within =
+    gives_input doc of.accepted f i k m n q s xs (get_or xs m x) is
+    (slot_is doc n s (node_in doc i k) slot is) list (slice_get-get_or xs m x within)
+
 -- all inputs are all that is given
 given_count : (doc : Doc) → IsAccepted doc → (f : Eval) (i k : ℕ) (n : Node) (q : Place) (s : Slot)
     → node_in doc i k ≡ Some n → s ≡ slot_of doc n
@@ -195,10 +211,12 @@ given_count doc accepted f i k n q s is same =
 
 pub ran_all : (s : Scope) → IsAccepted s.doc → (f : Eval) (i k m : ℕ) (n : Node) (q : Place)
     → (slot : Slot) (xs : List Input) (x y : Option (List Asked))
-    → (result : Result (List Value) Stop) → node_in s.doc i k ≡ Some n → slot ≡ slot_of s.doc n
-    → xs ≡ slot.inputs → length xs ≤ m → Ran s (all (take m (given s.doc f i n q))) x y result
+    → (result : Result (List Value) Stop) → node_in s.doc i k ≡ Some n
+    → Some slot ≡ option_map (slot_of s.doc) (node_in s.doc i k) → xs ≡ slot.inputs
+    → length xs ≤ m → Ran s (all (take m (given s.doc f i n q))) x y result
     → Ran s (all (given s.doc f i n q)) x y result
-ran_all s accepted f i k m n q slot xs x y result is same list past h =
+ran_all s accepted f i k m n q slot xs x y result is there list past h =
+    let same = slot_is s.doc n slot (node_in s.doc i k) there is in
     let count = given_count s.doc accepted f i k n q slot is same in
     let inputs : length xs ≡ length slot.inputs = ap (λ (l : List Input). length l) list in
     let le : length (given s.doc f i n q) ≤ m = omega (arith, count, inputs, past) in

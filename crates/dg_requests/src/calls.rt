@@ -46,8 +46,11 @@ pub fn got<S: InScope, C: Cells, B: Below<C>>(
     requires below { IsBelow C.scope C.asked B.can_eval B.eval_gives below.now S.scope depth }
     requires deep { depth ≤ 128 }
     requires same { C.scope cells.old ≡ S.scope }
-    requires can { CanRun S.scope (meaning.got_at S.scope.doc (meaning.eval S.scope.doc depth) (out-Value value.now) place) }
-    ensures ran { Ran S.scope (meaning.got_at S.scope.doc (meaning.eval S.scope.doc depth) (out-Value value.now) place) (C.asked cells.old) (C.asked cells.new) result }
+    requires can { CanRun S.scope
+        (meaning.got_at S.scope.doc (meaning.eval S.scope.doc depth) (out-Value value.now) place) }
+    ensures ran { Ran S.scope
+        (meaning.got_at S.scope.doc (meaning.eval S.scope.doc depth) (out-Value value.now) place)
+        (C.asked cells.old) (C.asked cells.new) result }
     ensures same { C.scope cells.new ≡ S.scope }
 {
     match value {
@@ -83,8 +86,13 @@ fn ends_in_value<S: InScope, C: Cells, B: Below<C>>(
     requires below { IsBelow C.scope C.asked B.can_eval B.eval_gives below.now S.scope depth }
     requires deep { depth ≤ 128 }
     requires same { C.scope cells.old ≡ S.scope }
-    requires can { CanRun S.scope (and_then (meaning.instance S.scope.doc (meaning.eval S.scope.doc depth) inst slot place) (λ v. gives (value_end v))) }
-    ensures ran { Ran S.scope (and_then (meaning.instance S.scope.doc (meaning.eval S.scope.doc depth) inst slot place) (λ v. gives (value_end v))) (C.asked cells.old) (C.asked cells.new) (ends result) }
+    requires can { CanRun S.scope
+        (and_then (meaning.instance S.scope.doc (meaning.eval S.scope.doc depth) inst slot place)
+        (λ v. gives (value_end v))) }
+    ensures ran { Ran S.scope
+        (and_then (meaning.instance S.scope.doc (meaning.eval S.scope.doc depth) inst slot place)
+        (λ v. gives (value_end v)))
+        (C.asked cells.old) (C.asked cells.new) (ends result) }
     ensures same { C.scope cells.new ≡ S.scope }
 {
     match instance::<S, C, B>(alloc, plan, inst, slot, place, below, depth, cells) {
@@ -110,8 +118,11 @@ fn awaited_slot<S: InScope, C: Cells, B: Below<C>>(
     requires deep { depth ≤ 128 }
     requires same { C.scope cells.old ≡ S.scope }
     requires fits { LeadsOn S.scope.doc inst slot }
-    requires can { CanRun S.scope (meaning.awaited_slot S.scope.doc (meaning.eval S.scope.doc depth) depth inst slot place) }
-    ensures ran { Ran S.scope (meaning.awaited_slot S.scope.doc (meaning.eval S.scope.doc depth) depth inst slot place) (C.asked cells.old) (C.asked cells.new) (ends result) }
+    requires can { CanRun S.scope
+        (meaning.awaited_slot S.scope.doc (meaning.eval S.scope.doc depth) depth inst slot place) }
+    ensures ran { Ran S.scope
+        (meaning.awaited_slot S.scope.doc (meaning.eval S.scope.doc depth) depth inst slot place)
+        (C.asked cells.old) (C.asked cells.new) (ends result) }
     ensures same { C.scope cells.new ≡ S.scope }
 {
     match producer_behind(plan, world, inst, slot) {
@@ -140,21 +151,18 @@ pub fn awaited<S: InScope, C: Cells, B: Below<C>>(
     requires deep { depth ≤ 128 }
     requires same { C.scope cells.old ≡ S.scope }
     requires fits { AwaitFits S.scope.doc value.now }
-    requires can { CanRun S.scope (meaning.awaited_at S.scope.doc (meaning.eval S.scope.doc depth) depth (out-Value value.now) place) }
-    ensures ran { Ran S.scope (meaning.awaited_at S.scope.doc (meaning.eval S.scope.doc depth) depth (out-Value value.now) place) (C.asked cells.old) (C.asked cells.new) (ends result) }
+    requires can { CanRun S.scope
+        (meaning.awaited_at S.scope.doc (meaning.eval S.scope.doc depth) depth
+        (out-Value value.now) place) }
+    ensures ran { Ran S.scope
+        (meaning.awaited_at S.scope.doc (meaning.eval S.scope.doc depth) depth
+        (out-Value value.now) place)
+        (C.asked cells.old) (C.asked cells.new) (ends result) }
     ensures same { C.scope cells.new ≡ S.scope }
 {
     match value {
         Value::Provider { inst, slot } => awaited_slot::<S, C, B>(
-            alloc,
-            plan,
-            world,
-            *inst,
-            *slot,
-            place,
-            below,
-            depth,
-            cells,
+            alloc, plan, world, *inst, *slot, place, below, depth, cells,
         ),
         _ => mistyped(alloc),
     }

@@ -45,8 +45,13 @@ fn produced<S: InScope, C: Cells, B: Below<C>>(
     requires below { IsBelow C.scope C.asked B.can_eval B.eval_gives below.now S.scope depth }
     requires deep { depth ≤ 128 }
     requires same { C.scope cells.old ≡ S.scope }
-    requires can { CanRun S.scope (runs.outcome_of (meaning.instance S.scope.doc (meaning.eval S.scope.doc depth) inst slot place)) }
-    ensures ran { Ran S.scope (runs.outcome_of (meaning.instance S.scope.doc (meaning.eval S.scope.doc depth) inst slot place)) (C.asked cells.old) (C.asked cells.new) result }
+    requires can { CanRun S.scope
+        (runs.outcome_of
+        (meaning.instance S.scope.doc (meaning.eval S.scope.doc depth) inst slot place)) }
+    ensures ran { Ran S.scope
+        (runs.outcome_of
+        (meaning.instance S.scope.doc (meaning.eval S.scope.doc depth) inst slot place))
+        (C.asked cells.old) (C.asked cells.new) result }
     ensures same { C.scope cells.new ≡ S.scope }
 {
     as_outcome(
@@ -72,8 +77,11 @@ pub fn give<S: InScope, C: Cells, B: Below<C>>(
     requires below { IsBelow C.scope C.asked B.can_eval B.eval_gives below.now S.scope depth }
     requires deep { depth ≤ 128 }
     requires same { C.scope cells.old ≡ S.scope }
-    requires can { CanRun S.scope (meaning.give S.scope.doc (meaning.eval S.scope.doc depth) mode inst slot place) }
-    ensures ran { Ran S.scope (meaning.give S.scope.doc (meaning.eval S.scope.doc depth) mode inst slot place) (C.asked cells.old) (C.asked cells.new) result }
+    requires can { CanRun S.scope
+        (meaning.give S.scope.doc (meaning.eval S.scope.doc depth) mode inst slot place) }
+    ensures ran { Ran S.scope
+        (meaning.give S.scope.doc (meaning.eval S.scope.doc depth) mode inst slot place)
+        (C.asked cells.old) (C.asked cells.new) result }
     ensures same { C.scope cells.new ≡ S.scope }
 {
     match mode {
@@ -139,13 +147,28 @@ fn give_input<S: InScope, C: Cells, B: Below<C>>(
     requires below { IsBelow C.scope C.asked B.can_eval B.eval_gives below.now S.scope depth }
     requires deep { depth ≤ 128 }
     requires same { C.scope cells.old ≡ S.scope }
-    requires can { CanRun S.scope (meaning.give S.scope.doc (meaning.eval S.scope.doc depth) mode target.inst target.slot (then_step place.now (step_of body.now (suc index)))) }
-    ensures ran { Ran S.scope (meaning.give S.scope.doc (meaning.eval S.scope.doc depth) mode target.inst target.slot (then_step place.now (step_of body.now (suc index)))) (C.asked cells.old) (C.asked cells.new) result }
+    requires can { CanRun S.scope
+        (meaning.give S.scope.doc (meaning.eval S.scope.doc depth) mode target.inst target.slot
+        (then_step place.now (step_of body.now (suc index)))) }
+    ensures ran { Ran S.scope
+        (meaning.give S.scope.doc (meaning.eval S.scope.doc depth) mode target.inst target.slot
+        (then_step place.now (step_of body.now (suc index))))
+        (C.asked cells.old) (C.asked cells.new) result }
     ensures same { C.scope cells.new ≡ S.scope }
 {
     match place_of(place, body, index) {
         Ok(at) => {
-            give::<S, C, B>(alloc, plan, mode, target.inst, target.slot, at, below, depth, cells)
+            give::<S, C, B>(
+                alloc,
+                plan,
+                mode,
+                target.inst,
+                target.slot,
+                at,
+                below,
+                depth,
+                cells,
+            )
         }
         Err(_) => Err(Stop::NoMemory),
     }
@@ -188,8 +211,14 @@ pub fn given<S: InScope, C: Cells, B: Below<C>>(
     requires deep { depth ≤ 128 }
     requires same { C.scope cells.old ≡ S.scope }
     requires there { IsSome (meaning.node_in S.scope.doc inst slot) }
-    requires can { (n : Node) → meaning.node_in S.scope.doc inst slot ≡ Some n → CanRun S.scope (runs.all (meaning.given S.scope.doc (meaning.eval S.scope.doc depth) inst n place.now)) }
-    ensures ran { (n : Node) → meaning.node_in S.scope.doc inst slot ≡ Some n → Ran S.scope (runs.all (meaning.given S.scope.doc (meaning.eval S.scope.doc depth) inst n place.now)) (C.asked cells.old) (C.asked cells.new) result }
+    requires can { (n : Node) → meaning.node_in S.scope.doc inst slot ≡ Some n
+        → CanRun S.scope
+        (runs.all
+        (meaning.given S.scope.doc (meaning.eval S.scope.doc depth) inst n place.now)) }
+    ensures ran { (n : Node) → meaning.node_in S.scope.doc inst slot ≡ Some n
+        → Ran S.scope
+        (runs.all (meaning.given S.scope.doc (meaning.eval S.scope.doc depth) inst n place.now))
+        (C.asked cells.old) (C.asked cells.new) result }
     ensures same { C.scope cells.new ≡ S.scope }
 {
     let Some(found) = slot_in(plan, world, inst, slot) else {
