@@ -1,0 +1,5 @@
+//! A store that keeps the contents of cells and of Lazies in memory, for one thread.
+#![tactic(auto)]
+
+mod keys;
+mod world;
