@@ -30,25 +30,34 @@ as_lazy l = (lazy l.0 l.1 l.2, l.3)
 abbrev pub contents : Stored → List (Asked × Kept)
 contents t = map as_cell t.cells ++ map as_lazy t.lazies
 
+-- the names of what has contents
+abbrev pub names_of : List (Asked × Kept) → List Asked
+names_of entries = map (λ e. e.0) entries
+
 -- the cells and Lazies that are stored
 abbrev pub names : Stored → List Asked
-names t = map (λ p. p.0) (contents t)
+names t = names_of (contents t)
 
 -- none of these stands there twice
 abbrev pub IsEachOnce : List Asked → Type 0
 IsEachOnce [] = Unit {0}
 IsEachOnce (x ∷ xs) = (Contains xs x → ⊥) × IsEachOnce xs
 
--- What is stored is what the document says, and no more than its asks use; it is whole, each cell
--- and each Lazy is there once, and it is what was asked for.
-pub record IsSound (doc : Doc) (t : Stored) : Type 0 where
-  pub content : (x : Asked) (kept : Kept) → Contains (contents t) (x, kept) → IsContent doc x kept
-  pub used : (x : Asked) → Contains (names t) x → Contains (used_by_asks doc) x
-  pub closed : (x y : Asked) → Contains (names t) x → Contains (asked_by doc x) y
-      → Contains (names t) y
-  pub once : IsEachOnce (names t)
-  pub asked_stored : (x : Asked) → Contains t.asked x → Contains (names t) x
-  pub stored_asked : (x : Asked) → Contains (names t) x → Contains t.asked x
+-- Contents of these names were stored while these were asked for: each is what the document says,
+-- and the asks of the document use it; what a content asked for is stored; no cell and no Lazy is
+-- there twice; and they are what was asked for.
+pub record IsSoundFor (doc : Doc) (stored : List (Asked × Kept)) (asked : List Asked) : Type 0 where
+  pub content : (x : Asked) (kept : Kept) → Contains stored (x, kept) → IsContent doc x kept
+  pub used : (x : Asked) → Contains (names_of stored) x → Contains (used_by_asks doc) x
+  pub closed : (x y : Asked) → Contains (names_of stored) x → Contains (asked_by doc x) y
+      → Contains (names_of stored) y
+  pub once : IsEachOnce (names_of stored)
+  pub asked_stored : (x : Asked) → Contains asked x → Contains (names_of stored) x
+  pub stored_asked : (x : Asked) → Contains (names_of stored) x → Contains asked x
+
+-- a store is sound
+abbrev pub IsSound : Doc → Stored → Type 0
+IsSound doc t = IsSoundFor doc (contents t) t.asked
 
 -- nothing is stored
 abbrev pub nothing : Stored

@@ -11,7 +11,7 @@ use Rattle.dg_tree.specs.declared.keys.CellKey.{CellKey}
 use Rattle.dg_tree.specs.declared.keys.LazyKey.{LazyKey}
 use Rattle.dg_tree.specs.declared.keys.Noted.{Noted}
 use Rattle.dg_tree.specs.declared.keys.Noted.TheVariants as noted
-use Rattle.dg_tree.specs.Stores.{LazyKept, Stored, IsSound}
+use Rattle.dg_tree.specs.Stores.{LazyKept, Stored, IsSoundFor}
 
 -- ---- tables
 
@@ -55,10 +55,18 @@ stored_in cs ls n m notes = record {
   asked = asked_in (names_in cell_name cs) (names_in lazy_name ls) n m notes;
 }
 
+-- what the tables store, by name
+abbrev pub entries_in : {K : Type 0} → (K → Asked) → List (K × Kept) → List (Asked × Kept)
+entries_in name entries = map (λ e. (name e.0, e.1)) entries
+
+abbrev pub all_entries : Cells → Lazies → List (Asked × Kept)
+all_entries cs ls = entries_in cell_name cs ++ entries_in lazy_name ls
+
 -- a store is sound, and its numbers lie within its tables
 pub record IsStore (doc : Doc) (cs : Cells) (ls : Lazies) (n m : ℕ) (notes : List Noted) : Type 0
   where
-    pub sound : IsSound doc (stored_in cs ls n m notes)
+    pub sound : IsSoundFor doc (all_entries cs ls)
+        (asked_in (names_in cell_name cs) (names_in lazy_name ls) n m notes)
     pub settled_cells : n ≤ length cs
     pub settled_lazies : m ≤ length ls
     pub noted_lazies : (k : ℕ) → Contains notes (noted.Lazy k) → k < length ls

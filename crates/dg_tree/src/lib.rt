@@ -2,4 +2,8 @@
 #![tactic(auto)]
 
 mod keys;
+mod parents;
+mod tree;
 mod world;
+
+pub use tree::Tree;
