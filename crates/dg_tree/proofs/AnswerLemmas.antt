@@ -31,9 +31,11 @@ uses_itself doc x = (1, contains_head x (flat_map (used doc 0) (asked_by doc x))
 uses_through : (doc : Doc) (x y z : Asked) → Contains (asked_by doc x) y → Uses doc y z
     → Uses doc x z
 unfolding used
-uses_through doc x y z c u =
-    (suc u.0, contains_tail x (flat_map (used doc u.0) (asked_by doc x)) z
-    (in_flat_map (used doc u.0) (asked_by doc x) y z c u.1))
+uses_through doc x y z c u = (
+  suc u.0,
+  contains_tail x (flat_map (used doc u.0) (asked_by doc x)) z
+      (in_flat_map (used doc u.0) (asked_by doc x) y z c u.1),
+)
 
 used_through : (doc : Doc) (x : Asked) (more : List Asked) → AllUsed doc (asked_by doc x) more
     → AllUsed doc (x ∷ []) more
@@ -52,15 +54,16 @@ only_itself doc x = record {
 
 -- ---- look-ups
 
-pub looked_none : (doc : Doc) (x : Asked) (old new : List Asked) (o : Option Kept) → o ≡ None
-    → LooksUp doc x old new (Ok o) → new ≡ old
-looked_none doc x old new None e h = h
-looked_none doc x old new (Some kept) e h = cc
+pub looked_none : (doc : Doc) (x : Asked) (stored old new : List Asked) (o : Option Kept)
+    → o ≡ None → LooksUp doc x stored old new (Ok o) → new ≡ old
+looked_none doc x stored old new None e h = h.1
+looked_none doc x stored old new (Some kept) e h = cc
 
-pub looked_some : (doc : Doc) (x : Asked) (old new : List Asked) (o : Option Kept) (kept : Kept)
-    → o ≡ Some kept → LooksUp doc x old new (Ok o) → LooksUp doc x old new (Ok (Some kept))
-looked_some doc x old new o kept e h =
-    subst (λ (p : Option Kept). LooksUp doc x old new (Ok p)) e h
+pub looked_some : (doc : Doc) (x : Asked) (stored old new : List Asked) (o : Option Kept)
+    (kept : Kept) → o ≡ Some kept → LooksUp doc x stored old new (Ok o)
+    → LooksUp doc x stored old new (Ok (Some kept))
+looked_some doc x stored old new o kept e h =
+    subst (λ (p : Option Kept). LooksUp doc x stored old new (Ok p)) e h
 
 -- ---- answers
 
@@ -120,8 +123,8 @@ called_made doc x old start made_at new kept first made is = record {
   asked = (
     made.asked.0 ++ x ∷ [],
     is ∙ ap (λ (l : List Asked). l ++ x ∷ [])
-    (made.asked.1 ∙ ap (λ (l : List Asked). l ++ made.asked.0) first)
-    ∙ append_assoc old made.asked.0 (x ∷ []),
+        (made.asked.1 ∙ ap (λ (l : List Asked). l ++ made.asked.0) first)
+        ∙ append_assoc old made.asked.0 (x ∷ []),
     record {
       used = λ y c. elim (Contains-push_cases made.asked.0 x y c) [
         | inl a ↦ used_through doc x made.asked.0 made.asked.2.used y a

@@ -54,7 +54,7 @@ content_of_name (e ∷ es) x c =
     elim (contains_cases e.0 (names_of es) x c) [
       | inl same ↦ (e.1, subst (λ z. Contains (e ∷ es) (z, e.1)) same (contains_head e es))
       | inr b ↦ (let rest = content_of_name es x b in
-        (rest.0, contains_tail e es (x, rest.0) rest.1))
+          (rest.0, contains_tail e es (x, rest.0) rest.1))
     ]
 
 -- ---- an entry more
@@ -173,7 +173,7 @@ module _ {K : Type 0} (eq : K → K → Bool) (name : K → Asked) (same : (a b 
           record {
             each = λ y w c. elim (contains_cases (name e.0, e.1) (entries_in name new) (y, w) c) [
               | inl f ↦ inl (subst (λ z. Contains (entries_in name (e ∷ es)) z) f
-                (contains_head (name e.0, e.1) (entries_in name es)))
+                  (contains_head (name e.0, e.1) (entries_in name es)))
               | inr b ↦ elim (rest.each y w b) [
                 | inl d ↦ inl (contains_tail (name e.0, e.1) (entries_in name es) (y, w) d)
                 | inr f ↦ inr f
@@ -181,7 +181,7 @@ module _ {K : Type 0} (eq : K → K → Bool) (name : K → Asked) (same : (a b 
             ];
             stays = λ y c. elim (contains_cases (name e.0) (names_of (entries_in name es)) y c) [
               | inl f ↦ subst (λ z. Contains (names_of (entries_in name (e ∷ new))) z) f
-                (contains_head (name e.0) (names_of (entries_in name new)))
+                  (contains_head (name e.0) (names_of (entries_in name new)))
               | inr b ↦ contains_tail (name e.0) (names_of (entries_in name new)) y (rest.stays y b)
             ];
             there = contains_tail (name e.0) (names_of (entries_in name new)) (name k) rest.there;
@@ -221,6 +221,21 @@ module _ {K : Type 0} (eq : K → K → Bool) (name : K → Asked) (same : (a b 
           | inl same ↦ true≢false (sym (told k e.0 (sym same)) ∙ apart.0)
           | inr b ↦ not_named k es apart.1 b
         ]
+
+    -- what isn't found isn't there
+    pub none_named : (es : List (K × Kept)) (k : K) → lookup (eq k) es ≡ None
+        → Contains (names_in name es) (name k) → ⊥
+    none_named [] k e c = none_contained (name k) c
+    none_named (x ∷ xs) k e c = by (eq k x.0) refl e (λ found d. none_named xs k found d)
+      where
+        by : (b : Bool) → eq k x.0 ≡ b → cond b (Some x.1) (lookup (eq k) xs) ≡ None
+            → (lookup (eq k) xs ≡ None → Contains (names_in name xs) (name k) → ⊥) → ⊥
+        by true is found rest = cc
+        by false is found rest =
+            elim (contains_cases (name x.0) (names_in name xs) (name k) c) [
+              | inl at ↦ true≢false (sym (told k x.0 (sym at)) ∙ is)
+              | inr d ↦ rest found d
+            ]
 
     pub each_once : (es : List (K × Kept)) → IsDistinct eq (keys_of es)
         → IsEachOnce (names_in name es)

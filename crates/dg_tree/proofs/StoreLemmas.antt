@@ -19,9 +19,9 @@ use Rattle.dg_tree.specs.declared.keys.CellKey.{CellKey}
 use Rattle.dg_tree.specs.declared.keys.LazyKey.{LazyKey}
 use Rattle.dg_tree.specs.declared.keys.Noted.{Noted}
 use Rattle.dg_tree.specs.declared.keys.Noted.TheVariants as noted
-use Rattle.dg_tree.specs.Stores.{Stored, as_cell, as_lazy, contents, names_of, IsEachOnce, IsSound, IsSoundFor, settled}
+use Rattle.dg_tree.specs.Stores.{Stored, as_cell, as_lazy, contents, names, names_of, IsEachOnce, IsSound, IsSoundFor, settled}
 use Rattle.dg_tree.specs.Tables.{Cells, Lazies, kept_cell, kept_lazy, stored_in, cell_name, lazy_name, names_in, entries_in, all_entries, noted_name, asked_in, IsStore}
-use Rattle.dg_tree.proofs.NameLemmas.{contains_head, contains_tail, contains_cases, contains_map, none_contained, content_of_name, Adds, names_join, adds_left, adds_right, names_grow, adds_entry, entry_found, name_at, each_once, name_inserted}
+use Rattle.dg_tree.proofs.NameLemmas.{contains_head, contains_tail, contains_cases, contains_map, none_contained, content_of_name, Adds, names_join, adds_left, adds_right, names_grow, adds_entry, entry_found, name_at, none_named, each_once, name_inserted}
 use Rattle.dg_tree.proofs.KeyLemmas.{same_cell, same_lazy, cells_same, cells_told, lazies_same, lazies_told}
 
 -- ---- sound contents
@@ -36,7 +36,7 @@ old_or_new x kept old new adds y c =
       | inr e ↦ inr (ap (λ (p : Asked × Kept). p.0) e)
     ]
 
-pub sound_more : (doc : Doc) (x : Asked) (kept : Kept) (old new : List (Asked × Kept))
+sound_more : (doc : Doc) (x : Asked) (kept : Kept) (old new : List (Asked × Kept))
     (asked : List Asked) → IsSoundFor doc old asked → IsContent doc x kept
     → Contains (used_by_asks doc) x
     → ((y : Asked) → Contains (asked_by doc x) y → Contains asked y) → Adds x kept old new
@@ -53,7 +53,7 @@ sound_more doc x kept old new asked sound is_content is_used is_closed adds once
   closed = λ y z c d. elim (old_or_new x kept old new adds y c) [
     | inl a ↦ adds.stays z (sound.closed y z a d)
     | inr e ↦ adds.stays z (sound.asked_stored z (is_closed z
-      (subst (λ w. Contains (asked_by doc w) z) (sym e) d)))
+        (subst (λ w. Contains (asked_by doc w) z) (sym e) d)))
   ];
   once = once;
   asked_stored = λ y c. elim (Contains-push_cases asked x y c) [
@@ -66,7 +66,7 @@ sound_more doc x kept old new asked sound is_content is_used is_closed adds once
   ];
 }
 
-pub sound_again : (doc : Doc) (x : Asked) (stored : List (Asked × Kept)) (asked : List Asked)
+sound_again : (doc : Doc) (x : Asked) (stored : List (Asked × Kept)) (asked : List Asked)
     → IsSoundFor doc stored asked → Contains (names_of stored) x
     → IsSoundFor doc stored (asked ++ x ∷ [])
 sound_again doc x stored asked sound there = record {
@@ -81,7 +81,7 @@ sound_again doc x stored asked sound there = record {
   stored_asked = λ y c. Contains-append_left asked (x ∷ []) y (sound.stored_asked y c);
 }
 
-pub sound_settled : (doc : Doc) (stored : List (Asked × Kept)) (asked : List Asked)
+sound_settled : (doc : Doc) (stored : List (Asked × Kept)) (asked : List Asked)
     → IsSoundFor doc stored asked → IsSoundFor doc stored (names_of stored)
 sound_settled doc stored asked sound = record {
   content = sound.content;
@@ -94,12 +94,12 @@ sound_settled doc stored asked sound = record {
 
 -- ---- the names of the tables
 
-pub names_are : {K : Type 0} (name : K → Asked) (es : List (K × Kept))
+names_are : {K : Type 0} (name : K → Asked) (es : List (K × Kept))
     → names_of (entries_in name es) ≡ names_in name es
 names_are name [] = refl
 names_are name (e ∷ es) = ap (λ (l : List Asked). name e.0 ∷ l) (names_are name es)
 
-pub all_names : (cs : Cells) (ls : Lazies)
+all_names : (cs : Cells) (ls : Lazies)
     → names_of (all_entries cs ls) ≡ names_in cell_name cs ++ names_in lazy_name ls
 all_names cs ls =
     names_join (entries_in cell_name cs) (entries_in lazy_name ls)
@@ -291,7 +291,7 @@ lazy_found cs ls key kept is =
     Contains-append_right (entries_in cell_name cs) (entries_in lazy_name ls) (lazy_name key, kept)
     (entry_found same_lazy lazy_name lazies_same ls key kept is)
 
-pub cell_again : (doc : Doc) (cs : Cells) (ls : Lazies) (n m : ℕ) (notes new : List Noted)
+cell_again : (doc : Doc) (cs : Cells) (ls : Lazies) (n m : ℕ) (notes new : List Noted)
     (i k : ℕ) (kept : Kept) → IsStore doc cs ls n m notes
     → lookup (same_cell (record { inst = i; slot = k })) cs ≡ Some kept
     → new ≡ notes ++ noted.Cell i k ∷ []
@@ -300,7 +300,7 @@ cell_again doc cs ls n m notes new i k kept store found is =
     held_again doc cs ls n m notes new (noted.Cell i k) (cell i k) kept store
     (cell_found cs ls i k kept found) is refl (no_lazy_note i k (length ls))
 
-pub lazy_again : (doc : Doc) (cs : Cells) (ls : Lazies) (n m : ℕ) (notes new : List Noted)
+lazy_again : (doc : Doc) (cs : Cells) (ls : Lazies) (n m : ℕ) (notes new : List Noted)
     (key : LazyKey) (index : ℕ) (kept : Kept) → IsStore doc cs ls n m notes
     → lookup (same_lazy key) ls ≡ Some kept → Some index ≡ position (same_lazy key) (keys_of ls)
     → new ≡ notes ++ noted.Lazy index ∷ []
@@ -314,7 +314,7 @@ lazy_again doc cs ls n m notes new key index kept store found at is =
     (lazy_note index (length ls) (omega (arith, long, lt)))
 
 -- a cell more
-pub cell_kept : (doc : Doc) (cs more : Cells) (ls : Lazies) (n m : ℕ) (notes new : List Noted)
+cell_kept : (doc : Doc) (cs more : Cells) (ls : Lazies) (n m : ℕ) (notes new : List Noted)
     (i k : ℕ) (kept : Kept) → IsStore doc cs ls n m notes → IsContent doc (cell i k) kept
     → Contains (used_by_asks doc) (cell i k)
     → ((y : Asked) → Contains (asked_by doc (cell i k)) y → Contains (asks cs ls n m notes) y)
@@ -359,7 +359,7 @@ cell_kept doc cs more ls n m notes new i k kept store content used closed is dis
     }
 
 -- a Lazy more
-pub lazy_kept : (doc : Doc) (cs : Cells) (ls more : Lazies) (n m : ℕ) (notes new : List Noted)
+lazy_kept : (doc : Doc) (cs : Cells) (ls more : Lazies) (n m : ℕ) (notes new : List Noted)
     (key : LazyKey) (index : ℕ) (kept : Kept) → IsStore doc cs ls n m notes
     → IsContent doc (lazy_name key) kept → Contains (used_by_asks doc) (lazy_name key)
     → ((y : Asked) → Contains (asked_by doc (lazy_name key)) y → Contains (asks cs ls n m notes) y)
@@ -412,6 +412,85 @@ lazy_kept doc cs ls more n m notes new key index kept store content used closed 
       };
       asked = e;
     }
+
+-- ---- the steps of a store that callers see as t
+
+abbrev pub Seen : Doc → Stored → Asked → Cells → Lazies → ℕ → ℕ → List Noted → Type 0
+Seen doc t x cs ls n m notes = Steps doc t.asked x cs ls n m notes
+
+steps_seen : (doc : Doc) (x : Asked) (cs more_cells : Cells) (ls more_lazies : Lazies) (n m : ℕ)
+    (notes new : List Noted) (t : Stored) → stored_in cs ls n m notes ≡ t
+    → Steps doc (asks cs ls n m notes) x more_cells more_lazies n m new
+    → Seen doc t x more_cells more_lazies n m new
+steps_seen doc x cs more_cells ls more_lazies n m notes new t is steps =
+    subst (λ (s : Stored). Seen doc s x more_cells more_lazies n m new) is steps
+
+closed_before : (doc : Doc) (x : Asked) (cs : Cells) (ls : Lazies) (n m : ℕ) (notes : List Noted)
+    (t : Stored) → stored_in cs ls n m notes ≡ t
+    → ((y : Asked) → Contains (asked_by doc x) y → Contains t.asked y) → (y : Asked)
+    → Contains (asked_by doc x) y → Contains (asks cs ls n m notes) y
+closed_before doc x cs ls n m notes t is closed y c =
+    subst (λ (s : Stored). Contains s.asked y) (sym is) (closed y c)
+
+pub cell_asked : (doc : Doc) (cs : Cells) (ls : Lazies) (n m : ℕ) (notes new : List Noted)
+    (i k : ℕ) (kept copy : Kept) (t : Stored) → stored_in cs ls n m notes ≡ t
+    → IsStore doc cs ls n m notes
+    → Some kept ≡ lookup (same_cell (record { inst = i; slot = k })) cs → copy ≡ kept
+    → new ≡ notes ++ noted.Cell i k ∷ []
+    → Seen doc t (cell i k) cs ls n m new × IsContent doc (cell i k) copy
+cell_asked doc cs ls n m notes new i k kept copy t is store found same noting =
+    let at = sym found ∙ ap (λ (v : Kept). Some v) (sym same) in (
+      steps_seen doc (cell i k) cs cs ls ls n m notes new t is
+          (cell_again doc cs ls n m notes new i k copy store at noting),
+      store.sound.content (cell i k) copy (cell_found cs ls i k copy at),
+    )
+
+pub lazy_asked : (doc : Doc) (cs : Cells) (ls : Lazies) (n m : ℕ) (notes new : List Noted)
+    (key : LazyKey) (index : ℕ) (kept copy : Kept) (t : Stored) → stored_in cs ls n m notes ≡ t
+    → IsStore doc cs ls n m notes → Some kept ≡ lookup (same_lazy key) ls → copy ≡ kept
+    → Some index ≡ position (same_lazy key) (keys_of ls)
+    → new ≡ notes ++ noted.Lazy index ∷ []
+    → Seen doc t (lazy_name key) cs ls n m new × IsContent doc (lazy_name key) copy
+lazy_asked doc cs ls n m notes new key index kept copy t is store found same place noting =
+    let at = sym found ∙ ap (λ (v : Kept). Some v) (sym same) in (
+      steps_seen doc (lazy_name key) cs cs ls ls n m notes new t is
+          (lazy_again doc cs ls n m notes new key index copy store at place noting),
+      store.sound.content (lazy_name key) copy (lazy_found cs ls key copy at),
+    )
+
+pub cell_stored : (doc : Doc) (cs more : Cells) (ls : Lazies) (n m : ℕ)
+    (notes room new : List Noted) (i k : ℕ) (kept copy : Kept) (t : Stored)
+    → stored_in cs ls n m notes ≡ t → IsStore doc cs ls n m notes
+    → IsContent doc (cell i k) kept → Contains (used_by_asks doc) (cell i k)
+    → ((y : Asked) → Contains (asked_by doc (cell i k)) y → Contains t.asked y) → copy ≡ kept
+    → more ≡ insert_entry same_cell cs (record { inst = i; slot = k }) copy
+    → IsDistinct same_cell (keys_of more) → room ≡ notes → new ≡ room ++ noted.Cell i k ∷ []
+    → Seen doc t (cell i k) more ls n m new
+cell_stored doc cs more ls n m notes room new i k kept copy t is store content used closed same
+    entries distinct roomy noting =
+    steps_seen doc (cell i k) cs more ls ls n m notes new t is
+    (cell_kept doc cs more ls n m notes new i k copy store
+    (subst (IsContent doc (cell i k)) (sym same) content) used
+    (closed_before doc (cell i k) cs ls n m notes t is closed) entries distinct
+    (noting ∙ ap (λ (l : List Noted). l ++ noted.Cell i k ∷ []) roomy))
+
+pub lazy_stored : (doc : Doc) (cs : Cells) (ls more : Lazies) (n m : ℕ)
+    (notes room new : List Noted) (key : LazyKey) (index : ℕ) (kept copy : Kept) (t : Stored)
+    → stored_in cs ls n m notes ≡ t → IsStore doc cs ls n m notes
+    → IsContent doc (lazy_name key) kept → Contains (used_by_asks doc) (lazy_name key)
+    → ((y : Asked) → Contains (asked_by doc (lazy_name key)) y → Contains t.asked y)
+    → copy ≡ kept → more ≡ insert_entry same_lazy ls key copy
+    → IsDistinct same_lazy (keys_of more)
+    → index ≡ position_or_len (same_lazy key) (keys_of ls) → room ≡ notes
+    → new ≡ room ++ noted.Lazy index ∷ []
+    → Seen doc t (lazy_name key) cs more n m new
+lazy_stored doc cs ls more n m notes room new key index kept copy t is store content used closed
+    same entries distinct place roomy noting =
+    steps_seen doc (lazy_name key) cs cs ls more n m notes new t is
+    (lazy_kept doc cs ls more n m notes new key index copy store
+    (subst (IsContent doc (lazy_name key)) (sym same) content) used
+    (closed_before doc (lazy_name key) cs ls n m notes t is closed) entries distinct place
+    (noting ∙ ap (λ (l : List Noted). l ++ noted.Lazy index ∷ []) roomy))
 
 -- ---- what callers see
 
@@ -494,3 +573,40 @@ looked_up (e ∷ es) i k =
         (cond b (Some (kept_cell e)) (find (is_cell i k) (map kept_cell es)))
     by true = refl
     by false = refl
+
+-- ---- what is looked up in vain
+
+cells_only : (x : Asked) (cs : Cells) → is_lazy x → Contains (names_in cell_name cs) x → ⊥
+cells_only x [] at c = none_contained x c
+cells_only x (e ∷ es) at c =
+    elim (contains_cases (cell_name e.0) (names_in cell_name es) x c) [
+      | inl same ↦ subst is_lazy (sym same) at
+      | inr b ↦ cells_only x es at b
+    ]
+
+seen_names : (cs : Cells) (ls : Lazies) (n m : ℕ) (notes : List Noted) (t : Stored)
+    → stored_in cs ls n m notes ≡ t → names t ≡ names_in cell_name cs ++ names_in lazy_name ls
+seen_names cs ls n m notes t is =
+    ap names (sym is) ∙ ap names_of (contents_are cs ls n m notes) ∙ all_names cs ls
+
+pub no_cell : (cs : Cells) (ls : Lazies) (n m : ℕ) (notes : List Noted) (i k : ℕ) (t : Stored)
+    → stored_in cs ls n m notes ≡ t
+    → None ≡ lookup (same_cell (record { inst = i; slot = k })) cs → Contains (names t) (cell i k)
+    → ⊥
+no_cell cs ls n m notes i k t is none c =
+    elim (Contains-append_cases (names_in cell_name cs) (names_in lazy_name ls) (cell i k)
+    (subst (λ (l : List Asked). Contains l (cell i k)) (seen_names cs ls n m notes t is) c)) [
+      | inl a ↦ none_named same_cell cell_name cells_same cells_told cs
+          (record { inst = i; slot = k }) (sym none) a
+      | inr b ↦ cell_not_lazy i k ls b
+    ]
+
+pub no_lazy : (cs : Cells) (ls : Lazies) (n m : ℕ) (notes : List Noted) (key : LazyKey) (t : Stored)
+    → stored_in cs ls n m notes ≡ t → None ≡ lookup (same_lazy key) ls
+    → Contains (names t) (lazy_name key) → ⊥
+no_lazy cs ls n m notes key t is none c =
+    elim (Contains-append_cases (names_in cell_name cs) (names_in lazy_name ls) (lazy_name key)
+    (subst (λ (l : List Asked). Contains l (lazy_name key)) (seen_names cs ls n m notes t is) c)) [
+      | inl a ↦ cells_only (lazy_name key) cs tt a
+      | inr b ↦ none_named same_lazy lazy_name lazies_same lazies_told ls key (sym none) b
+    ]

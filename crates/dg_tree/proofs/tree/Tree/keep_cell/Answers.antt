@@ -1,44 +1,24 @@
-use Rattle.std.proofs.Common.{List, ◌∷◌, ◌++◌, [], Contains, sym, ap, subst, ◌∙◌}
-use Rattle.indexmap.specs.IndexMap.{insert_entry}
-use Rattle.dg_value.specs.declared.value.Kept.{Kept}
-use Rattle.dg_eval.specs.Runs.{Asked, cell}
-use Rattle.dg_tree.specs.declared.keys.Noted.{Noted}
-use Rattle.dg_tree.specs.declared.keys.Noted.TheVariants as noted
-use Rattle.dg_tree.specs.Stores.{Stored}
-use Rattle.dg_tree.proofs.KeyLemmas.{same_cell}
-use Rattle.dg_tree.proofs.StoreLemmas.{cell_kept}
+use Rattle.dg_tree.proofs.StoreLemmas.{cell_stored}
 use Rattle.dg_tree.proofs.tree.Tree.keep_cell.Goals as goal
 
 pub invariant_of-self-2 : goal.invariant_of-self-2
 invariant_of-self-2 g c =
     let t = c.self.inside in
-    let asked = ap (λ (s : Stored). s.asked) c.self.view_is in
-    let entries = c.in_ok-insert.ensures.entries
-    ∙ ap (λ (k : Kept). insert_entry same_cell t.cells.entries (record { inst = c.args.inst; slot = c.args.slot }) k)
-    c.in_ok-copy.ensures.exact in
-    let steps = cell_kept g.D.OfDoc.document t.cells.entries c.insert.new.self.entries
-    t.lazies.entries t.settled_cells t.settled_lazies t.notes.items c.push.new.self.items
-    c.args.inst c.args.slot c.args.kept.now c.self.invariant.0 c.requires.content
-    c.requires.used (λ y d. subst (λ (l : List Asked). Contains l y) (sym asked)
-    (c.requires.closed y d)) entries c.in_ok-insert.ensures.unique
-    (c.in_ok-push.ensures.items
-    ∙ ap (λ (l : List Noted). l ++ noted.Cell c.args.inst c.args.slot ∷ [])
-    c.in_ok-reserve.ensures.items) in
+    let steps = cell_stored g.D.OfDoc.document t.cells.entries c.insert.new.self.entries
+    t.lazies.entries t.settled_cells t.settled_lazies t.notes.items c.reserve.new.self.items
+    c.push.new.self.items c.args.inst c.args.slot c.args.kept.now c.in_ok-copy.copy
+    c.args.self.now c.self.view_is c.self.invariant.0 c.requires.content c.requires.used
+    c.requires.closed c.in_ok-copy.ensures.exact c.in_ok-insert.ensures.entries
+    c.in_ok-insert.ensures.unique c.in_ok-reserve.ensures.items c.in_ok-push.ensures.items in
     (steps.store, c.self.invariant.1)
 
 pub returns-clause-exact : goal.returns-clause-exact
 returns-clause-exact g c =
     let t = c.self.inside in
-    let asked = ap (λ (s : Stored). s.asked) c.self.view_is in
-    let entries = c.in_ok-insert.ensures.entries
-    ∙ ap (λ (k : Kept). insert_entry same_cell t.cells.entries (record { inst = c.args.inst; slot = c.args.slot }) k)
-    c.in_ok-copy.ensures.exact in
-    let steps = cell_kept g.D.OfDoc.document t.cells.entries c.insert.new.self.entries
-    t.lazies.entries t.settled_cells t.settled_lazies t.notes.items c.push.new.self.items
-    c.args.inst c.args.slot c.args.kept.now c.self.invariant.0 c.requires.content
-    c.requires.used (λ y d. subst (λ (l : List Asked). Contains l y) (sym asked)
-    (c.requires.closed y d)) entries c.in_ok-insert.ensures.unique
-    (c.in_ok-push.ensures.items
-    ∙ ap (λ (l : List Noted). l ++ noted.Cell c.args.inst c.args.slot ∷ [])
-    c.in_ok-reserve.ensures.items) in
-    steps.asked ∙ ap (λ (l : List Asked). l ++ cell c.args.inst c.args.slot ∷ []) asked
+    let steps = cell_stored g.D.OfDoc.document t.cells.entries c.insert.new.self.entries
+    t.lazies.entries t.settled_cells t.settled_lazies t.notes.items c.reserve.new.self.items
+    c.push.new.self.items c.args.inst c.args.slot c.args.kept.now c.in_ok-copy.copy
+    c.args.self.now c.self.view_is c.self.invariant.0 c.requires.content c.requires.used
+    c.requires.closed c.in_ok-copy.ensures.exact c.in_ok-insert.ensures.entries
+    c.in_ok-insert.ensures.unique c.in_ok-reserve.ensures.items c.in_ok-push.ensures.items in
+    steps.asked

@@ -6,6 +6,7 @@ use Rattle.dg_value.specs.declared.place.Place.{Place}
 use Rattle.dg_eval.specs.Runs.{Asked, lazy}
 use Rattle.dg_eval.specs.Asks.{asked_by}
 use Rattle.dg_tree.specs.Tables.{LooksUp}
+use Rattle.dg_tree.specs.Stores.{names}
 use Rattle.dg_tree.proofs.AnswerLemmas.{Called, looked_none, looked_some, called_again, called_stopped, called_in_vain, called_made, made_closed}
 use Rattle.dg_tree.proofs.tree.TreeCells.lazy_or.Goals as goal
 
@@ -16,8 +17,8 @@ returns-in_err-kept-in-None g c =
     let start = c.asked_lazy.new.self.asked in
     let at = c.in_ok-copy.ensures.exact in
     let looked = subst (λ (p : Place). LooksUp doc (lazy c.args.inst c.args.slot p)
-    c.args.self.now.asked start (Ok c.in_ok-kept.field-0)) at c.in_ok-kept.ensures.exact in
-    let first = looked_none doc x c.args.self.now.asked start c.in_ok-kept.field-0 c.in-None.is
+    (names c.args.self.now) c.args.self.now.asked start (Ok c.in_ok-kept.field-0)) at c.in_ok-kept.ensures.exact in
+    let first = looked_none doc x (names c.args.self.now) c.args.self.now.asked start c.in_ok-kept.field-0 c.in-None.is
     looked in
     let made = c.requires.gives c.asked_lazy.new.self c.build.new.cells
     (Err c.in_err-kept-in-None.field-0.0) refl c.in_err-kept-in-None.ensures in
@@ -48,8 +49,8 @@ returns-in_err-keep_lazy-in-None g c =
     let start = c.asked_lazy.new.self.asked in
     let at = c.in_ok-copy.ensures.exact in
     let looked = subst (λ (p : Place). LooksUp doc (lazy c.args.inst c.args.slot p)
-    c.args.self.now.asked start (Ok c.in_ok-kept.field-0)) at c.in_ok-kept.ensures.exact in
-    let first = looked_none doc x c.args.self.now.asked start c.in_ok-kept.field-0 c.in-None.is
+    (names c.args.self.now) c.args.self.now.asked start (Ok c.in_ok-kept.field-0)) at c.in_ok-kept.ensures.exact in
+    let first = looked_none doc x (names c.args.self.now) c.args.self.now.asked start c.in_ok-kept.field-0 c.in-None.is
     looked in
     let made = c.requires.gives c.asked_lazy.new.self c.build.new.cells
     (Ok c.in_ok-kept-in-None.kept) refl c.in_ok-kept-in-None.ensures in
@@ -68,9 +69,9 @@ returns-in-Some g c =
     let doc = g.D.OfDoc.document in
     let x = lazy c.args.inst c.args.slot c.args.place.now in
     let looked = subst (λ (p : Place). LooksUp doc (lazy c.args.inst c.args.slot p)
-    c.args.self.now.asked c.asked_lazy.new.self.asked (Ok c.in_ok-kept.field-0))
+    (names c.args.self.now) c.args.self.now.asked c.asked_lazy.new.self.asked (Ok c.in_ok-kept.field-0))
     c.in_ok-copy.ensures.exact c.in_ok-kept.ensures.exact in
-    let h = looked_some doc x c.args.self.now.asked c.asked_lazy.new.self.asked c.in_ok-kept.field-0
+    let h = looked_some doc x (names c.args.self.now) c.args.self.now.asked c.asked_lazy.new.self.asked c.in_ok-kept.field-0
     c.in-Some.kept c.in-Some.is looked in
     record {
       exact = called_again doc x c.args.self.now.asked c.asked_lazy.new.self.asked c.in-Some.kept
@@ -84,8 +85,8 @@ returns-in_ok-keep_lazy-in-None g c =
     let start = c.asked_lazy.new.self.asked in
     let at = c.in_ok-copy.ensures.exact in
     let looked = subst (λ (p : Place). LooksUp doc (lazy c.args.inst c.args.slot p)
-    c.args.self.now.asked start (Ok c.in_ok-kept.field-0)) at c.in_ok-kept.ensures.exact in
-    let first = looked_none doc x c.args.self.now.asked start c.in_ok-kept.field-0 c.in-None.is
+    (names c.args.self.now) c.args.self.now.asked start (Ok c.in_ok-kept.field-0)) at c.in_ok-kept.ensures.exact in
+    let first = looked_none doc x (names c.args.self.now) c.args.self.now.asked start c.in_ok-kept.field-0 c.in-None.is
     looked in
     let made = c.requires.gives c.asked_lazy.new.self c.build.new.cells
     (Ok c.in_ok-kept-in-None.kept) refl c.in_ok-kept-in-None.ensures in
