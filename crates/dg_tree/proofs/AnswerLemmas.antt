@@ -114,23 +114,23 @@ called_in_vain doc x old start made_at new kept e first made is = record {
 }
 
 -- what was made is stored
-pub called_made : (doc : Doc) (x : Asked) (old start made_at new : List Asked) (kept : Kept)
+pub called_made : (doc : Doc) (x y : Asked) (old start made_at new : List Asked) (kept : Kept)
     → start ≡ old → Called doc x (asked_by doc x) start made_at (Ok kept)
-    → new ≡ made_at ++ x ∷ [] → Called doc x (x ∷ []) old new (Ok kept)
-called_made doc x old start made_at new kept first made is = record {
+    → new ≡ made_at ++ y ∷ [] → y ≡ x → Called doc x (x ∷ []) old new (Ok kept)
+called_made doc x y old start made_at new kept first made is same_name = record {
   content = made.content;
   same = refl;
   asked = (
     made.asked.0 ++ x ∷ [],
-    is ∙ ap (λ (l : List Asked). l ++ x ∷ [])
+    is ∙ ap (λ (z : Asked). made_at ++ z ∷ []) same_name ∙ ap (λ (l : List Asked). l ++ x ∷ [])
         (made.asked.1 ∙ ap (λ (l : List Asked). l ++ made.asked.0) first)
         ∙ append_assoc old made.asked.0 (x ∷ []),
     record {
-      used = λ y c. elim (Contains-push_cases made.asked.0 x y c) [
-        | inl a ↦ used_through doc x made.asked.0 made.asked.2.used y a
-        | inr e ↦ used_itself doc x y e
+      used = λ z c. elim (Contains-push_cases made.asked.0 x z c) [
+        | inl a ↦ used_through doc x made.asked.0 made.asked.2.used z a
+        | inr e ↦ used_itself doc x z e
       ];
-      each = λ y c. subst (Contains (made.asked.0 ++ x ∷ [])) (only_one x y c)
+      each = λ z c. subst (Contains (made.asked.0 ++ x ∷ [])) (only_one x z c)
           (Contains-push made.asked.0 x);
     },
   );

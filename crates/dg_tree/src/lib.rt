@@ -7,3 +7,6 @@ mod tree;
 mod world;
 
 pub use tree::Tree;
+
+#[cfg(test)]
+mod tests;

@@ -74,7 +74,7 @@ returns-in_ok-keep_cell-in-None g c =
     let made = c.requires.gives c.asked_cell.new.self c.build.new.cells
     (Ok c.in_ok-kept-in-None.kept) refl c.in_ok-kept-in-None.ensures in
     record {
-      exact = called_made doc x c.args.self.now.asked start c.build.new.cells.asked
+      exact = called_made doc x x c.args.self.now.asked start c.build.new.cells.asked
           c.keep_cell.new.self.asked c.in_ok-kept-in-None.kept first made
-          c.in_ok-keep_cell-in-None.ensures.exact;
+          c.in_ok-keep_cell-in-None.ensures.exact refl;
     }

@@ -1,4 +1,4 @@
-use Rattle.std.proofs.Common.{[], ◌∷◌, ◌++◌, Contains, Result, Ok, Err, refl, sym, ap, subst, ◌∙◌}
+use Rattle.std.proofs.Common.{[], ◌∷◌, Contains, Result, Ok, Err, refl, sym, ap, subst}
 use Rattle.std.proofs.lemmas.Result.{err_from_is_err_and}
 use Rattle.dg_types.specs.declared.memory.NoMemory.{NoMemory}
 use Rattle.dg_value.specs.declared.value.Kept.{Kept}
@@ -91,8 +91,7 @@ returns-in_ok-keep_lazy-in-None g c =
     let made = c.requires.gives c.asked_lazy.new.self c.build.new.cells
     (Ok c.in_ok-kept-in-None.kept) refl c.in_ok-kept-in-None.ensures in
     record {
-      exact = called_made doc x c.args.self.now.asked start c.build.new.cells.asked
+      exact = called_made doc x (lazy c.args.inst c.args.slot c.in_ok-copy.field-0) c.args.self.now.asked start c.build.new.cells.asked
           c.keep_lazy.new.self.asked c.in_ok-kept-in-None.kept first made
-          (c.in_ok-keep_lazy-in-None.ensures.exact
-          ∙ ap (λ (p : Place). c.build.new.cells.asked ++ lazy c.args.inst c.args.slot p ∷ []) at);
+          c.in_ok-keep_lazy-in-None.ensures.exact (ap (lazy c.args.inst c.args.slot) at);
     }
