@@ -123,7 +123,8 @@ adds_right x kept others old new adds = record {
   there = named_right others new x adds.there;
 }
 
-module _ {K : Type 0} (eq : K → K → Bool) (name : K → Asked) (same : (a b : K) → eq a b ≡ true → a ≡ b) where
+module _ {K : Type 0} (eq : K → K → Bool) (name : K → Asked) (same : (a b : K) → eq a b ≡ true →
+    a ≡ b) where
   -- keys keep their places, and a new one comes last
   pub names_grow : (es : List (K × Kept)) (k : K) (v : Kept)
       → (more : List Asked) × (names_in name (insert_entry eq es k v) ≡ names_in name es ++ more)
@@ -131,7 +132,8 @@ module _ {K : Type 0} (eq : K → K → Bool) (name : K → Asked) (same : (a b 
   names_grow (e ∷ es) k v = by (eq k e.0) (names_grow es k v)
     where
       by : (b : Bool)
-          → (more : List Asked) × (names_in name (insert_entry eq es k v) ≡ names_in name es ++ more)
+          → (more : List Asked) × (names_in name (insert_entry eq es k v) ≡ names_in name es ++
+          more)
           → (more : List Asked)
           × (names_in name (if b then (e.0, v) ∷ es else e ∷ insert_entry eq es k v)
           ≡ names_in name (e ∷ es) ++ more)
@@ -245,7 +247,8 @@ module _ {K : Type 0} (eq : K → K → Bool) (name : K → Asked) (same : (a b 
 
 -- ---- where a new entry stands
 
-module _ {K : Type 0} (eq : K → K → Bool) (name : K → Asked) (same : (a b : K) → eq a b ≡ true → a ≡ b) where
+module _ {K : Type 0} (eq : K → K → Bool) (name : K → Asked) (same : (a b : K) → eq a b ≡ true →
+    a ≡ b) where
   pub name_inserted : (es : List (K × Kept)) (k : K) (v : Kept)
       → slice_get (names_in name (insert_entry eq es k v)) (position_or_len (eq k) (keys_of es))
       ≡ Some (name k)
@@ -260,6 +263,7 @@ module _ {K : Type 0} (eq : K → K → Bool) (name : K → Asked) (same : (a b 
           ≡ Some (name k)
       by true is rest = ap (λ (z : K). Some (name z)) (sym (same k e.0 is))
       by false is rest =
-          let at : 1 + position_or_len (eq k) (keys_of es) ≡ suc (position_or_len (eq k) (keys_of es)) =
+          let at : 1 + position_or_len (eq k) (keys_of es) ≡ suc (position_or_len (eq k) (keys_of
+          es)) =
           omega arith in
           ap (λ (n : ℕ). slice_get (name e.0 ∷ names_in name (insert_entry eq es k v)) n) at ∙ rest

@@ -133,7 +133,8 @@ once_joined (e ∷ es) ls of_cells of_lazies = (
     append_cases : Contains (names_in cell_name es ++ names_in lazy_name ls) (cell_name e.0)
         → Contains (names_in cell_name es) (cell_name e.0)
         ⊎ Contains (names_in lazy_name ls) (cell_name e.0)
-    append_cases c = Contains-append_cases (names_in cell_name es) (names_in lazy_name ls) (cell_name e.0) c
+    append_cases c = Contains-append_cases (names_in cell_name es) (names_in lazy_name ls)
+        (cell_name e.0) c
 
 once_left : (xs ys : List Asked) → IsEachOnce (xs ++ ys) → IsEachOnce xs
 once_left [] ys h = tt

@@ -73,8 +73,8 @@ pub record IsStore (doc : Doc) (cs : Cells) (ls : Lazies) (n m : ℕ) (notes : L
 
 -- ---- steps
 
--- A cell or Lazy was looked up among those that are stored: where it is held it is asked for, and its
--- content is given.
+-- A cell or Lazy was looked up among those that are stored: where it is held it is asked for, and
+-- its content is given.
 abbrev pub LooksUp : Doc → Asked → List Asked → List Asked → List Asked
     → Result (Option Kept) NoMemory → Type 0
 LooksUp doc x stored old new (Ok (Some kept)) = IsContent doc x kept × (new ≡ old ++ x ∷ [])

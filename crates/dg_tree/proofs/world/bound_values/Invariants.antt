@@ -7,5 +7,8 @@ use Rattle.dg_tree.proofs.world.bound_values.Given as goal
 
 abbrev pub invariant-loop-e : goal.invariant-loop-e
 invariant-loop-e l =
-    l.values ++ map (λ a. (constant a.1).value (at_root (root.Arg l.number a.0)) 0) (enumerate_from l.arg (drop l.e-index l.e-items))
-    ≡ map (λ a. (constant a.1).value (at_root (root.Arg l.number a.0)) 0) (enumerate_from 0 l.inst.bound)
+    l.values
+    ++ map (λ a. (constant a.1).value (at_root (root.Arg l.number a.0)) 0)
+    (enumerate_from l.arg (drop l.e-index l.e-items))
+    ≡ map (λ a. (constant a.1).value (at_root (root.Arg l.number a.0)) 0)
+    (enumerate_from 0 l.inst.bound)

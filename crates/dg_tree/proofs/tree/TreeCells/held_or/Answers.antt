@@ -12,7 +12,8 @@ returns-in_err-kept-in-None g c =
     let doc = g.D.OfDoc.document in
     let x = cell c.args.inst c.args.slot in
     let start = c.asked_cell.new.self.asked in
-    let first = looked_none doc x (names c.args.self.now) c.args.self.now.asked start c.in_ok-kept.field-0 c.in-None.is
+    let first = looked_none doc x (names c.args.self.now) c.args.self.now.asked start
+    c.in_ok-kept.field-0 c.in-None.is
     c.in_ok-kept.ensures.exact in
     let made = c.requires.gives c.asked_cell.new.self c.build.new.cells
     (Err c.in_err-kept-in-None.field-0.0) refl c.in_err-kept-in-None.ensures in
@@ -39,7 +40,8 @@ returns-in_err-keep_cell-in-None g c =
     let doc = g.D.OfDoc.document in
     let x = cell c.args.inst c.args.slot in
     let start = c.asked_cell.new.self.asked in
-    let first = looked_none doc x (names c.args.self.now) c.args.self.now.asked start c.in_ok-kept.field-0 c.in-None.is
+    let first = looked_none doc x (names c.args.self.now) c.args.self.now.asked start
+    c.in_ok-kept.field-0 c.in-None.is
     c.in_ok-kept.ensures.exact in
     let made = c.requires.gives c.asked_cell.new.self c.build.new.cells
     (Ok c.in_ok-kept-in-None.kept) refl c.in_ok-kept-in-None.ensures in
@@ -57,7 +59,8 @@ pub returns-in-Some : goal.returns-in-Some
 returns-in-Some g c =
     let doc = g.D.OfDoc.document in
     let x = cell c.args.inst c.args.slot in
-    let h = looked_some doc x (names c.args.self.now) c.args.self.now.asked c.asked_cell.new.self.asked c.in_ok-kept.field-0
+    let h = looked_some doc x (names c.args.self.now) c.args.self.now.asked
+    c.asked_cell.new.self.asked c.in_ok-kept.field-0
     c.in-Some.kept c.in-Some.is c.in_ok-kept.ensures.exact in
     record {
       exact = called_again doc x c.args.self.now.asked c.asked_cell.new.self.asked c.in-Some.kept
@@ -69,7 +72,8 @@ returns-in_ok-keep_cell-in-None g c =
     let doc = g.D.OfDoc.document in
     let x = cell c.args.inst c.args.slot in
     let start = c.asked_cell.new.self.asked in
-    let first = looked_none doc x (names c.args.self.now) c.args.self.now.asked start c.in_ok-kept.field-0 c.in-None.is
+    let first = looked_none doc x (names c.args.self.now) c.args.self.now.asked start
+    c.in_ok-kept.field-0 c.in-None.is
     c.in_ok-kept.ensures.exact in
     let made = c.requires.gives c.asked_cell.new.self c.build.new.cells
     (Ok c.in_ok-kept-in-None.kept) refl c.in_ok-kept-in-None.ensures in

@@ -17,8 +17,10 @@ returns-in_err-kept-in-None g c =
     let start = c.asked_lazy.new.self.asked in
     let at = c.in_ok-copy.ensures.exact in
     let looked = subst (λ (p : Place). LooksUp doc (lazy c.args.inst c.args.slot p)
-    (names c.args.self.now) c.args.self.now.asked start (Ok c.in_ok-kept.field-0)) at c.in_ok-kept.ensures.exact in
-    let first = looked_none doc x (names c.args.self.now) c.args.self.now.asked start c.in_ok-kept.field-0 c.in-None.is
+    (names c.args.self.now) c.args.self.now.asked start (Ok c.in_ok-kept.field-0)) at
+    c.in_ok-kept.ensures.exact in
+    let first = looked_none doc x (names c.args.self.now) c.args.self.now.asked start
+    c.in_ok-kept.field-0 c.in-None.is
     looked in
     let made = c.requires.gives c.asked_lazy.new.self c.build.new.cells
     (Err c.in_err-kept-in-None.field-0.0) refl c.in_err-kept-in-None.ensures in
@@ -49,8 +51,10 @@ returns-in_err-keep_lazy-in-None g c =
     let start = c.asked_lazy.new.self.asked in
     let at = c.in_ok-copy.ensures.exact in
     let looked = subst (λ (p : Place). LooksUp doc (lazy c.args.inst c.args.slot p)
-    (names c.args.self.now) c.args.self.now.asked start (Ok c.in_ok-kept.field-0)) at c.in_ok-kept.ensures.exact in
-    let first = looked_none doc x (names c.args.self.now) c.args.self.now.asked start c.in_ok-kept.field-0 c.in-None.is
+    (names c.args.self.now) c.args.self.now.asked start (Ok c.in_ok-kept.field-0)) at
+    c.in_ok-kept.ensures.exact in
+    let first = looked_none doc x (names c.args.self.now) c.args.self.now.asked start
+    c.in_ok-kept.field-0 c.in-None.is
     looked in
     let made = c.requires.gives c.asked_lazy.new.self c.build.new.cells
     (Ok c.in_ok-kept-in-None.kept) refl c.in_ok-kept-in-None.ensures in
@@ -69,9 +73,11 @@ returns-in-Some g c =
     let doc = g.D.OfDoc.document in
     let x = lazy c.args.inst c.args.slot c.args.place.now in
     let looked = subst (λ (p : Place). LooksUp doc (lazy c.args.inst c.args.slot p)
-    (names c.args.self.now) c.args.self.now.asked c.asked_lazy.new.self.asked (Ok c.in_ok-kept.field-0))
+    (names c.args.self.now) c.args.self.now.asked c.asked_lazy.new.self.asked (Ok
+    c.in_ok-kept.field-0))
     c.in_ok-copy.ensures.exact c.in_ok-kept.ensures.exact in
-    let h = looked_some doc x (names c.args.self.now) c.args.self.now.asked c.asked_lazy.new.self.asked c.in_ok-kept.field-0
+    let h = looked_some doc x (names c.args.self.now) c.args.self.now.asked
+    c.asked_lazy.new.self.asked c.in_ok-kept.field-0
     c.in-Some.kept c.in-Some.is looked in
     record {
       exact = called_again doc x c.args.self.now.asked c.asked_lazy.new.self.asked c.in-Some.kept
@@ -85,13 +91,16 @@ returns-in_ok-keep_lazy-in-None g c =
     let start = c.asked_lazy.new.self.asked in
     let at = c.in_ok-copy.ensures.exact in
     let looked = subst (λ (p : Place). LooksUp doc (lazy c.args.inst c.args.slot p)
-    (names c.args.self.now) c.args.self.now.asked start (Ok c.in_ok-kept.field-0)) at c.in_ok-kept.ensures.exact in
-    let first = looked_none doc x (names c.args.self.now) c.args.self.now.asked start c.in_ok-kept.field-0 c.in-None.is
+    (names c.args.self.now) c.args.self.now.asked start (Ok c.in_ok-kept.field-0)) at
+    c.in_ok-kept.ensures.exact in
+    let first = looked_none doc x (names c.args.self.now) c.args.self.now.asked start
+    c.in_ok-kept.field-0 c.in-None.is
     looked in
     let made = c.requires.gives c.asked_lazy.new.self c.build.new.cells
     (Ok c.in_ok-kept-in-None.kept) refl c.in_ok-kept-in-None.ensures in
     record {
-      exact = called_made doc x (lazy c.args.inst c.args.slot c.in_ok-copy.field-0) c.args.self.now.asked start c.build.new.cells.asked
+      exact = called_made doc x (lazy c.args.inst c.args.slot c.in_ok-copy.field-0)
+          c.args.self.now.asked start c.build.new.cells.asked
           c.keep_lazy.new.self.asked c.in_ok-kept-in-None.kept first made
           c.in_ok-keep_lazy-in-None.ensures.exact (ap (lazy c.args.inst c.args.slot) at);
     }
