@@ -104,7 +104,7 @@ then_same (Some (Ok vs, asked)) n f g is h = ap (before asked) (h vs is)
 then_same (Some (Err e, asked)) n f g is h = refl
 
 -- what goes on with what the dependencies of a node are given matters for as many values
-given_same : {B : Type 0} (doc : Doc) (below : Eval) (i : ℕ) (n : Node) (q : Place)
+pub given_same : {B : Type 0} (doc : Doc) (below : Eval) (i : ℕ) (n : Node) (q : Place)
     → (f g : List Value → Run B)
     → ((vs : List Value) → length vs ≡ length (deps doc n) → f vs ≡ g vs)
     → and_then (all (given doc below i n q)) f ≡ and_then (all (given doc below i n q)) g
@@ -146,7 +146,7 @@ one_param_run s =
     leaf_run (nexpr.Param 0) s
     ∙ ap (λ (p : Part Value). and_then (p.run s 0 0) (λ v. gives (value_end v))) (param_part 0)
 
-abbrev AtMostOne : {A : Type 0} → List A → Type 0
+abbrev pub AtMostOne : {A : Type 0} → List A → Type 0
 AtMostOne [] = Unit {0}
 AtMostOne (x ∷ []) = Unit {0}
 AtMostOne (x ∷ y ∷ xs) = ⊥
@@ -359,7 +359,7 @@ class_ends doc accepted below depth i k class c number q t other at is e h = abs
 
 -- ---- exposed entries
 
-option_most : {A : Type 0} (o : Option A) → AtMostOne (option_to_list o)
+pub option_most : {A : Type 0} (o : Option A) → AtMostOne (option_to_list o)
 option_most None = tt
 option_most (Some x) = tt
 
