@@ -4,9 +4,8 @@ ghost use Rattle.std.specs.Prelude.{◌≡◌, ◌≤◌, ◌-◌, suc, Bool, So
 ghost use Rattle.dg_slots.specs.declared.plan.Body.TheVariants as body_of;
 ghost use Rattle.dg_eval.specs.Meaning as meaning;
 ghost use Rattle.dg_requests.specs.Scopes.{IsClosed, IsFit, Asks};
-ghost use Rattle.dg_requests.specs.Results.{CanRun, Ran};
 ghost use Rattle.dg_requests.specs.Depths.{IsBelow};
-ghost use Rattle.dg_requests.specs.Ending.{as_end, ends};
+ghost use Rattle.dg_requests.specs.Results.{CanRun, Ran, as_end, ends};
 ghost use Rattle.dg_eval.specs.Runs as runs;
 ghost use Rattle.dg_evaluator.specs.Answers.{HasBody, HasSet, IsSlotIn, ends_in, outcome_in};
 ghost use Rattle.dg_evaluator.specs.Ends.{end_over, end_of_slot, only_over, outcome_of};

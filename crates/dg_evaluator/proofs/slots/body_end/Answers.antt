@@ -1,6 +1,6 @@
 use Rattle.std.proofs.Common.{sym}
 use Rattle.dg_eval.specs.Meaning.{eval}
-use Rattle.dg_requests.specs.Ending.{ends}
+use Rattle.dg_requests.specs.Results.{ends}
 use Rattle.dg_requests.proofs.LayerLemmas.{fit_context}
 use Rattle.dg_evaluator.proofs.EndLemmas.{has_body, has_set, set_ends_so, map_ends_so, optional_ends_so, argument_ends_so, entry_ends_so, argument_ran, end_can, end_ran}
 use Rattle.dg_evaluator.proofs.slots.body_end.Goals as goal

@@ -1,7 +1,7 @@
 use Rattle.std.proofs.Common.{◌≡◌, ap}
 use Rattle.std.proofs.lemmas.Result.{err_from_is_err_and}
 use Rattle.dg_eval.specs.Meaning.{eval}
-use Rattle.dg_requests.specs.Ending.{ends}
+use Rattle.dg_requests.specs.Results.{ends}
 use Rattle.dg_evaluator.proofs.SlotLemmas.{given_can, given_next, given_then, given_stops, run_by}
 use Rattle.dg_evaluator.proofs.slots.run_end.Goals as goal
 
