@@ -102,7 +102,7 @@ enumerated_at f m (x ∷ xs) (suc i) =
     enumerated_at f (m + 1) xs i
     ∙ ap (λ (k : ℕ). option_map (λ x. f (k, x)) (slice_get xs i)) e
 
-first_enumerated : {A B : Type 0} (f : (ℕ × A) → B) (xs : List A) (i : ℕ)
+pub first_enumerated : {A B : Type 0} (f : (ℕ × A) → B) (xs : List A) (i : ℕ)
     → slice_get (map f (enumerate_from 0 xs)) i ≡ option_map (λ x. f (i, x)) (slice_get xs i)
 first_enumerated f xs i =
     let e : 0 + i ≡ i = omega arith in
@@ -237,7 +237,7 @@ pub record FindsTarget (doc : Doc) (world : World) (i : ℕ) (n : Node) (d : Dep
   pub found : Node
   pub is_found : node_in doc inst x.slot ≡ Some found
 
-in_its_class : (doc : Doc) (i k : ℕ) (n : Node) → class_of_inst doc i ≡ Some n.class
+pub in_its_class : (doc : Doc) (i k : ℕ) (n : Node) → class_of_inst doc i ≡ Some n.class
     → node_at doc k ≡ Some n → node_in doc i k ≡ Some n
 in_its_class doc i k n class is =
     (λ j. option_and_then (λ (m : Node). cond (is_number m.class (class j)) (Some m) None) (is j))

@@ -159,7 +159,7 @@ unfolding depends_on_production
 rule_is doc class b d c h f =
     in_filter_map _ (deps doc (node_of class (node.Bound b))) d _ c (rw (h, f) refl)
 
-rule_holds : (doc : Doc) → IsAccepted doc → (n : Node) → Contains (nodes doc) n
+pub rule_holds : (doc : Doc) → IsAccepted doc → (n : Node) → Contains (nodes doc) n
     → depends_on_production doc n ≡ []
 unfolding bindings_stage bindings_at
 rule_holds doc accepted n among =
@@ -269,7 +269,7 @@ pub record TakesOne (doc : Doc) (n : Node) : Type 0 where
   pub production : is_production doc to ≡ true
   pub bound : IsBound to.kind
 
-bound_only : (c : Core) (k : NodeKind) (b : _) → c ≡ core.One b → IsFoundAs c k → IsBound k
+pub bound_only : (c : Core) (k : NodeKind) (b : _) → c ≡ core.One b → IsFoundAs c k → IsBound k
 bound_only c (node.Bound r) b e h = tt
 bound_only c (node.Multi key) b e h =
     let P : Core → Type 0 = λ c. IsFoundAs c (node.Multi key) in (subst P e h).0
