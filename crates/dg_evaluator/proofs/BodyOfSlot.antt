@@ -117,12 +117,12 @@ given_same doc below i n q f g h =
 
 -- ---- the body that gives its one parameter
 
-tree_is : (t : NTree) (z : NTree-F NTree) → roll-NTree z ≡ t
+pub tree_is : (t : NTree) (z : NTree-F NTree) → roll-NTree z ≡ t
     → tree_part t ≡ tree_at (map-NTree NTree (Part End) tree_part z)
 unfolding tree_part
 tree_is t z is = sym (ap tree_part is) ∙ fold-roll-NTree (Part End) tree_at z
 
-expr_is : (e : NExpr) (z : NExpr-F NCond NExpr) → roll-NExpr z ≡ e
+pub expr_is : (e : NExpr) (z : NExpr-F NCond NExpr) → roll-NExpr z ≡ e
     → expr_part e
     ≡ expr_at (map-NExpr NCond NExpr (Part Bool) (Part Value) cond_part expr_part z)
 unfolding cond_part expr_part
@@ -134,7 +134,7 @@ leaf_run : (e : NExpr) (s : Around)
 leaf_run e s =
     ap (λ (p : Part End). p.run s 0 0) (tree_is (ntree.Leaf e) (NTree-F.Leaf e) (ntree.rolls-Leaf e))
 
-param_part : (p : ℕ)
+pub param_part : (p : ℕ)
     → expr_part (nexpr.Param p)
     ≡ expr_at (map-NExpr NCond NExpr (Part Bool) (Part Value) cond_part expr_part (NExpr-F.Param p))
 param_part p = expr_is (nexpr.Param p) (NExpr-F.Param p) (nexpr.rolls-Param p)
@@ -255,15 +255,15 @@ constructs doc below depth i k c class n q e =
 
 -- ---- which bodies are run
 
-abbrev is_run : Body → Bool
+abbrev pub is_run : Body → Bool
 is_run (body.Run t) = true
 is_run other = false
 
-abbrev run_tree : Body → NTree
+abbrev pub run_tree : Body → NTree
 run_tree (body.Run t) = t
 run_tree other = ntree.Leaf (nexpr.Param 0)
 
-not_run : {A : Type 0} (b : Body) (t : NTree) → is_run b ≡ false → b ≡ body.Run t → A
+pub not_run : {A : Type 0} (b : Body) (t : NTree) → is_run b ≡ false → b ≡ body.Run t → A
 not_run b t is e = absurd (false≢true (sym is ∙ ap is_run e))
 
 -- what goes on with the parameters of a node by a tree
@@ -387,7 +387,7 @@ exposed_ends doc below depth i k class dep entry q t h =
 
 -- ---- bodies that are run
 
-multi_not_run : (doc : Doc) (class : ℕ) (key : Key) (c : Core)
+pub multi_not_run : (doc : Doc) (class : ℕ) (key : Key) (c : Core)
     → is_run (body_of_multi doc class key c) ≡ false
 multi_not_run doc class key (core.Map k b form) = refl
 multi_not_run doc class key other = refl

@@ -1,5 +1,5 @@
 -- Evaluation ends, and gives the value at its end.
-use Rattle.std.proofs.Common.{◌≡◌, ◌≤◌, ◌-◌, ℕ, zero, suc, Bool, List, [], ◌++◌, Option, Some, None, Result, Ok, Err, refl, sym, ap, subst, ◌∙◌, append-nil, arith}
+use Rattle.std.proofs.Common.{◌≡◌, ◌≤◌, ◌-◌, ℕ, zero, suc, Bool, List, [], ◌++◌, Option, Some, None, Result, Ok, Err, option_map, refl, sym, ap, subst, ◌∙◌, append-nil, arith}
 use Rattle.std.specs.Option.{option_map_or}
 use Rattle.dg_types.specs.declared.key.MapKeyVal.{MapKeyVal}
 use Rattle.dg_decl.specs.declared.document.Doc.{Doc}
@@ -7,20 +7,28 @@ use Rattle.dg_decl.specs.declared.binding.BindRef.TheVariants as binding
 use Rattle.dg_decl.specs.declared.graph.Node.{Node}
 use Rattle.dg_decl.specs.declared.graph.NodeKind.{NodeKind}
 use Rattle.dg_decl.specs.declared.graph.NodeKind.TheVariants as node
+use Rattle.std.proofs.lemmas.Option.{none-some}
 use Rattle.dg_decl.specs.Graph.{node_of}
+use Rattle.dg_decl.proofs.MemberLemmas.{out_option_map}
 use Rattle.dg_slots.specs.declared.plan.Body.{Body}
 use Rattle.dg_slots.specs.declared.plan.Body.TheVariants as body
+use Rattle.dg_slots.specs.declared.plan.Plan.{Plan}
 use Rattle.dg_slots.specs.declared.plan.Slot.{Slot}
+use Rattle.dg_slots.specs.Plans.{slot_of}
 use Rattle.dg_value.specs.declared.place.Place.{Place}
 use Rattle.dg_value.specs.declared.value.Value.{Value}
 use Rattle.dg_eval.specs.Runs.{Asked, Run, gives, and_then, mistyped}
+use Rattle.dg_eval.specs.declared.world.World.{World}
 use Rattle.dg_eval.specs.World.{bound_value}
 use Rattle.dg_eval.specs.Operations.{or_mistyped}
 use Rattle.dg_eval.specs.Bodies.{End, value_end}
 use Rattle.dg_eval.specs.Meaning.{Eval, node_in, of_end, eval_node, eval}
+use Rattle.dg_requests.specs.declared.calls.End.{End as Ends}
 use Rattle.dg_requests.specs.declared.stop.Stop.{Stop}
-use Rattle.dg_requests.specs.Scopes.{Scope}
-use Rattle.dg_requests.specs.Results.{CanRun, Gave, Ran}
+use Rattle.dg_requests.specs.declared.stop.Stop.TheVariants as stop
+use Rattle.dg_requests.specs.Contexts.{IsContextOf}
+use Rattle.dg_requests.specs.Scopes.{Scope, IsFit}
+use Rattle.dg_requests.specs.Results.{CanRun, Gave, Ran, ends}
 use Rattle.dg_requests.proofs.ContextLemmas.{in_class_is}
 use Rattle.dg_requests.proofs.RanLemmas.{can_as, can_first, can_rest, ran_as, ran_plain, ran_stops, ran_then}
 use Rattle.dg_evaluator.specs.Answers.{IsSlotIn, HasBody, HasSet, ends_in}
@@ -160,6 +168,44 @@ pub argument_is : (doc : Doc) (depth i k : ℕ) (q : Place) (a : ℕ) → HasBod
 argument_is doc depth i k q a has =
     eval_is doc depth i k has.node q has.is_node
     ∙ (arg_ends doc (eval doc depth) depth i k has.node q a has.is_body).is
+
+-- what fits is a context
+pub fits_so : (s : Scope) (plan : Plan) (world : World) → IsFit s plan world
+    → IsContextOf s.doc plan world
+fits_so s plan world fit =
+    record { accepted = fit.accepted; of_plan = fit.of_plan; of_world = fit.of_world }
+
+-- a slot that is there
+pub slot_so : (doc : Doc) (i k : ℕ) (s : Slot)
+    → Some s ≡ option_map (slot_of doc) (node_in doc i k) → IsSlotIn doc i k s
+slot_so doc i k s e =
+    let o = out_option_map (slot_of doc) (node_in doc i k) s (sym e) in
+    record { node = o.0; is_node = o.1; is_slot = sym o.2 }
+
+no_node : (doc : Doc) (o : Option Node) → None ≡ option_map (slot_of doc) o → o ≡ None
+no_node doc None e = refl
+no_node doc (Some n) e = absurd (none-some (slot_of doc n) e)
+
+-- there is no slot
+pub not_so : (doc : Doc) (f : Eval) (depth i k : ℕ) (q : Place)
+    → None ≡ option_map (slot_of doc) (node_in doc i k)
+    → end_over doc f depth i k q ≡ mistyped
+not_so doc f depth i k q e =
+    ap (λ (o : Option Node). option_map_or (λ n. end_of_node doc f depth i k n q) o mistyped)
+    (no_node doc (node_in doc i k) e)
+
+pub mistyped_ran : {A : Type 0} (s : Scope) (run : Run A) (a : Option (List Asked))
+    → (result : Result A Stop) → run ≡ mistyped → Gave (mistyped {A = A}) result
+    → Ran s run a a result
+mistyped_ran s run a result e gave =
+    ran_as s mistyped run a a result (sym e) (ran_plain s mistyped a result refl gave)
+
+-- a failure where a part is missing, as one of an end
+pub ends_gave : (result : Result Ends Stop) → Gave (mistyped {A = Ends}) result
+    → Gave (mistyped {A = End}) (ends result)
+ends_gave (Ok e) gave = cc
+ends_gave (Err (stop.Failed f)) gave = (let same = gave in cc)
+ends_gave (Err stop.NoMemory) gave = tt
 
 -- ---- what was run
 

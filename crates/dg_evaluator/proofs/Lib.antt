@@ -5,3 +5,5 @@ pub mod SlotLemmas
 pub mod SetLemmas
 pub mod EndLemmas
 pub mod PathLemmas
+pub mod CalledLemmas
+pub mod ReplyLemmas

@@ -1,18 +1,16 @@
 -- Steps of the path of an ask, and the entry that it asks for.
-use Rattle.std.proofs.Common.{◌≡◌, ◌<◌, ℕ, zero, suc, ◌+◌, Bool, true, false, cond, List, [], ◌∷◌, ◌++◌, length, map, filter_map, get_or, slice_get, drop, Contains, Option, Some, None, option_map, option_and_then, option_to_list, IfOk, Result, Ok, Err, refl, sym, ap, subst, ◌∙◌, append-nil, arith}
+use Rattle.std.proofs.Common.{◌≡◌, ◌<◌, ◌≤◌, ℕ, suc, ◌+◌, List, [], ◌∷◌, ◌++◌, length, map, slice_get, drop, Contains, Option, Some, None, option_map, option_and_then, Result, Ok, Err, refl, sym, ap, subst, ◌∙◌, append-nil, arith}
 use Rattle.std.specs.List.{enumerate_from, range_with_len}
 use Rattle.std.specs.Option.{option_map_or}
-use Rattle.std.proofs.Math.Seq.{drop-cons}
-use Rattle.std.proofs.lemmas.Option.{none-some, same_Some, slice_get-map, slice_get_within, get_or_from_slice_get, slice_get_read}
-use Rattle.std.proofs.lemmas.Bool.{eq-eqb}
+use Rattle.std.proofs.lemmas.Option.{none-some, slice_get-map, slice_get_read}
 use Rattle.std.proofs.lemmas.List.FromFn.{get_or-range_with_len, length-range_with_len}
-use Rattle.dg_types.specs.declared.memory.NoMemory.{NoMemory}
+use Rattle.dg_types.specs.declared.key.MapKeyVal.{MapKeyVal}
 use Rattle.dg_decl.specs.declared.document.Doc.{Doc}
 use Rattle.dg_decl.specs.declared.graph.Node.{Node}
 use Rattle.dg_decl.specs.declared.graph.NodeKind.TheVariants as node
 use Rattle.dg_decl.specs.declared.item.Item.{Item}
 use Rattle.dg_decl.specs.declared.item.Item.TheVariants as item
-use Rattle.dg_decl.specs.Components.{is_number, class_count, class_named, entries_of}
+use Rattle.dg_decl.specs.Components.{class_count, class_named, entries_of}
 use Rattle.dg_decl.specs.Document.{Statement, statements}
 use Rattle.dg_decl.specs.Graph.{Dependency, deps, node_of, nodes, number_of}
 use Rattle.dg_decl.proofs.ComponentLemmas.{class_below}
@@ -21,25 +19,38 @@ use Rattle.dg_slots.specs.declared.plan.Plan.{Plan}
 use Rattle.dg_slots.specs.declared.session.Ask.{Ask}
 use Rattle.dg_slots.specs.declared.session.Inst.{Inst}
 use Rattle.dg_slots.specs.declared.session.PathStep.{PathStep}
+use Rattle.dg_slots.specs.declared.session.PathStep.TheVariants as path
 use Rattle.dg_slots.specs.Sessions.{inst_of, insts_of}
 use Rattle.dg_slots.specs.Plans.{entries_of_class, entry_slots, plan_of}
 use Rattle.dg_value.specs.declared.place.Place.{Place}
-use Rattle.dg_value.specs.declared.value.Value.{Value}
+use Rattle.dg_value.specs.declared.place.PlaceStep.TheVariants as step
+use Rattle.dg_value.specs.declared.value.Kept.TheOpen.{Value-F}
+use Rattle.dg_value.specs.declared.value.Value.{Value, out-Value}
+use Rattle.dg_value.specs.declared.place.PlaceRoot.TheVariants as root
+use Rattle.dg_value.specs.Places.{at_root, then_step}
+use Rattle.dg_value.specs.Same.{Layer}
 use Rattle.dg_eval.specs.declared.world.World.{World}
-use Rattle.dg_eval.specs.Runs.{Asked, Run, gives, and_then, both, all, mistyped}
+use Rattle.dg_eval.specs.Runs.{Asked, Run, gives, and_then, both, all, asks_of, mistyped}
 use Rattle.dg_eval.specs.World.{inst_at, class_of_inst}
-use Rattle.dg_eval.specs.Operations.{or_mistyped, only_of}
-use Rattle.dg_eval.specs.Meaning.{node_at, node_in, Eval, given_one, given, look, eval, enough}
-use Rattle.dg_eval.specs.Asks.{Reached, stepped, goes_on, followed, entry_node, first_run, requested}
+use Rattle.dg_eval.specs.Operations.{or_mistyped, only_of, field_at, field_in, entry_of, inside_in}
+use Rattle.dg_eval.specs.Meaning.{node_in, given_one, given, got_at, look, eval, enough}
+use Rattle.dg_eval.specs.Asks.{Reached, value_there, not_there, present, entry_at, inside_reached, stepped, goes_on, followed, entry_node, first_run, requested, run_of_ask}
 use Rattle.dg_eval.proofs.EntryNodes.{asked_entry}
 use Rattle.dg_eval.proofs.InputLists.{EachGiven, given_at}
 use Rattle.dg_eval.proofs.TargetLemmas.{number_is}
+use Rattle.dg_requests.specs.declared.stop.Stop.{Stop}
+use Rattle.dg_requests.specs.declared.stop.Stop.TheVariants as stop
+use Rattle.dg_requests.specs.Scopes.{Scope}
+use Rattle.dg_requests.specs.Results.{CanRun, Gave, Ran}
 use Rattle.dg_requests.specs.Contexts.{IsContextOf}
-use Rattle.dg_requests.proofs.ContextLemmas.{classes_are}
-use Rattle.dg_evaluator.specs.Answers.{step_run, entry_there}
+use Rattle.dg_requests.proofs.RanLemmas.{can_as, can_first, can_rest, ran_as, ran_plain, ran_stops, ran_then, ran_nothing}
+use Rattle.dg_requests.proofs.ContextLemmas.{classes_are, in_its_class}
+use Rattle.dg_evaluator.specs.Answers.{step_run, is_there, entry_there}
 use Rattle.dg_evaluator.specs.Ends.{only_over}
 use Rattle.dg_evaluator.proofs.BodyOfSlot.{then_then, AtMostOne, option_most}
-use Rattle.dg_evaluator.proofs.SlotLemmas.{only_is}
+use Rattle.dg_evaluator.proofs.RestLemmas.{stopped, then_plain, Rest, left_as, left_next, left_plain}
+use Rattle.dg_evaluator.proofs.SetLemmas.{cons_left, dropped}
+use Rattle.dg_evaluator.proofs.SlotLemmas.{only_is, quiet_option}
 
 -- ---- steps
 
@@ -49,6 +60,144 @@ pub followed_step : (doc : Doc) (q : Place) (k : ℕ) (x : PathStep) (xs : List 
     ≡ and_then (step_run doc q k x v) (goes_on (followed doc q (suc k) xs))
 followed_step doc q k x xs v =
     sym (then_then (look (eval doc enough) enough v) _ (goes_on (followed doc q (suc k) xs)))
+
+-- a value that is there
+there_ran : (s : Scope) (r : Run Value) (a b : Option (List Asked)) (given : Result Value Stop)
+    → CanRun s (and_then r (λ w. gives (value_there w))) → Ran s r a b given
+    → Ran s (and_then r (λ w. gives (value_there w))) a b (is_there given)
+there_ran s r a b (Ok v) can h =
+    then_plain s r (λ w. gives (value_there w)) v a b (Ok (value_there v)) can h refl refl
+there_ran s r a b (Err e) can h = ran_stops s r (λ w. gives (value_there w)) e a b can h
+
+there_as : (s : Scope) (run : Run Reached) (r : Run Value) (a b : Option (List Asked))
+    → (given : Result Value Stop) (result : Result Reached Stop)
+    → run ≡ and_then r (λ w. gives (value_there w)) → CanRun s run → Ran s r a b given
+    → result ≡ is_there given → Ran s run a b result
+there_as s run r a b given result e can h same =
+    let then = and_then r (λ w. gives (value_there w)) in
+    subst (λ (u : Result Reached Stop). Ran s run a b u) (sym same)
+    (ran_as s then run a b (is_there given) (sym e)
+    (there_ran s r a b given (can_as s run then e can) h))
+
+pub field_ran : (s : Scope) (q : Place) (x : PathStep) (k : ℕ) (v : Value)
+    → (a : Option (List Asked)) (given : Result Value Stop) (result : Result Reached Stop)
+    → x ≡ path.Field k → CanRun s (stepped s.doc q x v) → Gave (field_in k v) given
+    → result ≡ is_there given → Ran s (stepped s.doc q x v) a a result
+field_ran s q x k v a given result e can gave same =
+    there_as s (stepped s.doc q x v) (field_in k v) a a given result
+    (ap (λ (x : PathStep). stepped s.doc q x v) e) can
+    (ran_plain s (field_in k v) a given (quiet_option (field_at k (out-Value v))) gave) same
+
+pub got_can : (s : Scope) (q : Place) (x : PathStep) (v : Value) → x ≡ path.Get
+    → CanRun s (stepped s.doc q x v)
+    → CanRun s (got_at s.doc (eval s.doc 128) (out-Value v) q)
+got_can s q x v e can =
+    can_first s (got_at s.doc (eval s.doc 128) (out-Value v) q) (λ w. gives (value_there w))
+    (can_as s (stepped s.doc q x v) _ (ap (λ (x : PathStep). stepped s.doc q x v) e) can)
+
+pub got_ran : (s : Scope) (q : Place) (x : PathStep) (v : Value) (a b : Option (List Asked))
+    → (given : Result Value Stop) (result : Result Reached Stop) → x ≡ path.Get
+    → CanRun s (stepped s.doc q x v)
+    → Ran s (got_at s.doc (eval s.doc 128) (out-Value v) q) a b given → result ≡ is_there given
+    → Ran s (stepped s.doc q x v) a b result
+got_ran s q x v a b given result e can h same =
+    there_as s (stepped s.doc q x v) (got_at s.doc (eval s.doc 128) (out-Value v) q) a b given
+    result (ap (λ (x : PathStep). stepped s.doc q x v) e) can h same
+
+quiet_present : (o : Option Value) → asks_of (present o) ≡ []
+quiet_present None = refl
+quiet_present (Some v) = refl
+
+quiet_entry : (key : MapKeyVal) (l : Layer) → asks_of (entry_at key l) ≡ []
+quiet_entry key (Value-F.Map es) = quiet_present (entry_of key es)
+quiet_entry key other = refl
+
+quiet_inside : (o : Option (Option Value)) → asks_of (inside_reached o) ≡ []
+quiet_inside None = refl
+quiet_inside (Some o) = quiet_present o
+
+pub entry_ran : (s : Scope) (q : Place) (x : PathStep) (key : MapKeyVal) (v : Value)
+    → (a : Option (List Asked)) (result : Result Reached Stop) → x ≡ path.At key
+    → Gave (entry_at key (out-Value v)) result → Ran s (stepped s.doc q x v) a a result
+entry_ran s q x key v a result e gave =
+    ran_as s (entry_at key (out-Value v)) (stepped s.doc q x v) a a result
+    (sym (ap (λ (x : PathStep). stepped s.doc q x v) e))
+    (ran_plain s (entry_at key (out-Value v)) a result (quiet_entry key (out-Value v)) gave)
+
+pub inside_ran : (s : Scope) (q : Place) (x : PathStep) (v : Value) (a : Option (List Asked))
+    → (result : Result Reached Stop) → x ≡ path.Inside → Gave (inside_reached (inside_in v)) result
+    → Ran s (stepped s.doc q x v) a a result
+inside_ran s q x v a result e gave =
+    ran_as s (inside_reached (inside_in v)) (stepped s.doc q x v) a a result
+    (sym (ap (λ (x : PathStep). stepped s.doc q x v) e))
+    (ran_plain s (inside_reached (inside_in v)) a result (quiet_inside (inside_in v)) gave)
+
+-- a step from the content behind a value, at a place that is that of the step
+pub seen_can : (s : Scope) (q at : Place) (k : ℕ) (x : PathStep) (v w : Value)
+    → (a b : Option (List Asked)) → at ≡ then_step q (step.Step k)
+    → CanRun s (step_run s.doc q k x v) → Ran s (look (eval s.doc 128) 128 v) a b (Ok w)
+    → CanRun s (stepped s.doc at x w)
+seen_can s q at k x v w a b e can h =
+    can_as s (stepped s.doc (then_step q (step.Step k)) x w) (stepped s.doc at x w)
+    (ap (λ (p : Place). stepped s.doc p x w) (sym e))
+    (can_rest s (look (eval s.doc 128) 128 v) (stepped s.doc (then_step q (step.Step k)) x) w can
+    h.gave)
+
+pub seen_ran : (s : Scope) (q at : Place) (k : ℕ) (x : PathStep) (v w : Value)
+    → (a b d : Option (List Asked)) (result : Result Reached Stop)
+    → at ≡ then_step q (step.Step k) → CanRun s (step_run s.doc q k x v)
+    → Ran s (look (eval s.doc 128) 128 v) a b (Ok w) → Ran s (stepped s.doc at x w) b d result
+    → Ran s (step_run s.doc q k x v) a d result
+seen_ran s q at k x v w a b d result e can h then =
+    ran_then s (look (eval s.doc 128) 128 v) (stepped s.doc (then_step q (step.Step k)) x) w a b d
+    result can h
+    (ran_as s (stepped s.doc at x w) (stepped s.doc (then_step q (step.Step k)) x w) b d result
+    (ap (λ (p : Place). stepped s.doc p x w) e) then)
+
+-- memory lacks for what goes on
+pub lacks : {A B : Type 0} (s : Scope) (r : Run A) (next : A → Run B) (v : A)
+    → (a b : Option (List Asked)) (d : Stop) (result : Result B Stop) → CanRun s (and_then r next)
+    → Ran s r a b (Ok v) → result ≡ Err d → d ≡ stop.NoMemory → Ran s (and_then r next) a b result
+lacks {A} {B} s r next v a b d result can h gave same =
+    let err : Stop → Result B Stop = λ u. Err u in
+    let to : err stop.NoMemory ≡ result = ap err (sym same) ∙ sym gave in
+    subst (λ (u : Result B Stop). Ran s (and_then r next) a b u) to
+    (ran_then s r next v a b b (Err stop.NoMemory) can h (ran_nothing s (next v) b))
+
+-- ---- the steps of a path, one after the other
+
+-- what goes on from a value, with the steps from this one on
+abbrev pub FromStep : Doc → Place → List PathStep → ℕ → Value → Run Reached
+FromStep doc q xs i v = followed doc q (suc i) (drop i xs) v
+
+pub path_next : (s : Scope) (whole : Run Reached) (q : Place) (xs : List PathStep) (i : ℕ)
+    → (x : PathStep) (v : Value) (a b : Option (List Asked)) → slice_get xs i ≡ Some x
+    → Rest s whole a (FromStep s.doc q xs i v) b
+    → Rest s whole a (and_then (step_run s.doc q (suc i) x v)
+    (goes_on (FromStep s.doc q xs (i + 1)))) b
+path_next s whole q xs i x v a b is rest =
+    let next : suc i ≡ i + 1 = omega arith in
+    left_as s whole _ _ a b
+    (ap (λ (l : List PathStep). followed s.doc q (suc i) l v) (cons_left xs i x is)
+    ∙ followed_step s.doc q (suc i) x (drop (i + 1) xs) v
+    ∙ ap (λ (n : ℕ). and_then (step_run s.doc q (suc i) x v)
+    (goes_on (followed s.doc q (suc n) (drop (i + 1) xs)))) next) rest
+
+pub path_ends : (s : Scope) (whole : Run Reached) (q : Place) (xs : List PathStep) (i : ℕ)
+    → (v : Value) (a b : Option (List Asked)) → length xs ≤ i
+    → Rest s whole a (FromStep s.doc q xs i v) b → Ran s whole a b (Ok (value_there v))
+path_ends s whole q xs i v a b le rest =
+    left_plain s whole (gives (value_there v)) a b (Ok (value_there v))
+    (left_as s whole _ _ a b
+    (ap (λ (l : List PathStep). followed s.doc q (suc i) l v) (dropped xs i le)) rest) refl refl
+
+pub path_absent : (s : Scope) (whole : Run Reached) (r : Run Reached)
+    → (next : Value → Run Reached) (a b d : Option (List Asked))
+    → Rest s whole a (and_then r (goes_on next)) b → Ran s r b d (Ok not_there)
+    → Ran s whole a d (Ok not_there)
+path_absent s whole r next a b d rest h =
+    left_plain s whole (gives not_there) a d (Ok not_there)
+    (left_next s whole r (goes_on next) a b d not_there rest h) refl refl
 
 -- ---- the class of an instance
 
@@ -162,12 +311,6 @@ pub record EntrySlot (doc : Doc) (a : Ask) (k : ℕ) : Type 0 where
   pub is_node : node_in doc a.inst k ≡ Some node
   pub most : AtMostOne (deps doc node)
 
-in_its_class : (doc : Doc) (i k class : ℕ) (n : Node) → class_of_inst doc i ≡ Some class
-    → n.class ≡ class → node_at doc k ≡ Some n → node_in doc i k ≡ Some n
-in_its_class doc i k class n of same is =
-    (λ j. option_and_then (λ (m : Node). cond (is_number m.class (of j)) (Some m) None) (is j))
-    ∙ ap (λ (b : Bool). cond b (Some n) None) (eq-eqb class n.class (sym same))
-
 pub entry_slot_is : (doc : Doc) (plan : Plan) (world : World) → IsContextOf doc plan world
     → (a : Ask) (k : ℕ) → Some k ≡ entry_there plan world a → EntrySlot doc a k
 entry_slot_is doc plan world of a k is =
@@ -180,8 +323,8 @@ entry_slot_is doc plan world of a k is =
     record {
       node = o.0;
       is_asked = o.1;
-      is_node = in_its_class doc a.inst k class.0 o.0 class.1
-          (sym (ap (λ (n : Node). n.class) entry.2)) (number_is (nodes doc) o.0 k o.2);
+      is_node = in_its_class doc a.inst k o.0 (class.1 ∙ ap (λ (n : Node). Some n.class) entry.2)
+          (number_is (nodes doc) o.0 k o.2);
       most = subst P entry.2 (entry_most doc class.0 entry.0);
     }
 
@@ -208,3 +351,55 @@ not_requested doc plan world of a q is =
     by_node (Some n) e none =
         absurd (none-some (asked_entry doc a n e).number
         (sym none ∙ (asked_entry doc a n e).is_number))
+
+-- ---- whole asks
+
+ask_run : (doc : Doc) (number : ℕ) (a : Ask) (q : Place) → q ≡ at_root (root.Ask number)
+    → run_of_ask doc number a ≡ and_then (requested doc a q) (followed doc q 1 a.steps)
+unfolding run_of_ask
+ask_run doc number a q at =
+    ap (λ (p : Place). and_then (requested doc a p) (followed doc p 1 a.steps)) (sym at)
+
+pub ask_first_can : (s : Scope) (number : ℕ) (a : Ask) (q : Place) → q ≡ at_root (root.Ask number)
+    → CanRun s (run_of_ask s.doc number a) → CanRun s (requested s.doc a q)
+ask_first_can s number a q at can =
+    can_first s (requested s.doc a q) (followed s.doc q 1 a.steps)
+    (can_as s (run_of_ask s.doc number a) _ (ask_run s.doc number a q at) can)
+
+pub ask_stops : (s : Scope) (number : ℕ) (a : Ask) (q : Place) (x y : Option (List Asked))
+    → (e d : Stop) (result : Result Reached Stop) → q ≡ at_root (root.Ask number)
+    → CanRun s (run_of_ask s.doc number a) → Ran s (requested s.doc a q) x y (Err e)
+    → result ≡ Err d → d ≡ e → Ran s (run_of_ask s.doc number a) x y result
+ask_stops s number a q x y e d result at can h gave same =
+    let r = requested s.doc a q in
+    let next = followed s.doc q 1 a.steps in
+    ran_as s (and_then r next) (run_of_ask s.doc number a) x y result
+    (sym (ask_run s.doc number a q at))
+    (stopped s r next x y e d result
+    (can_as s (run_of_ask s.doc number a) (and_then r next) (ask_run s.doc number a q at) can) h
+    gave same)
+
+pub path_can : (s : Scope) (number : ℕ) (a : Ask) (q : Place) (xs : List PathStep)
+    → (x y : Option (List Asked)) (v : Value) → q ≡ at_root (root.Ask number) → xs ≡ a.steps
+    → CanRun s (run_of_ask s.doc number a) → Ran s (requested s.doc a q) x y (Ok v)
+    → CanRun s (followed s.doc q 1 xs v)
+path_can s number a q xs x y v at are can h =
+    can_as s (followed s.doc q 1 a.steps v) (followed s.doc q 1 xs v)
+    (ap (λ (l : List PathStep). followed s.doc q 1 l v) (sym are))
+    (can_rest s (requested s.doc a q) (followed s.doc q 1 a.steps) v
+    (can_as s (run_of_ask s.doc number a) _ (ask_run s.doc number a q at) can) h.gave)
+
+pub path_ran : (s : Scope) (number : ℕ) (a : Ask) (q : Place) (xs : List PathStep)
+    → (x y z : Option (List Asked)) (v : Value) (result : Result Reached Stop)
+    → q ≡ at_root (root.Ask number) → xs ≡ a.steps → CanRun s (run_of_ask s.doc number a)
+    → Ran s (requested s.doc a q) x y (Ok v) → Ran s (followed s.doc q 1 xs v) y z result
+    → Ran s (run_of_ask s.doc number a) x z result
+path_ran s number a q xs x y z v result at are can h then =
+    let r = requested s.doc a q in
+    let next = followed s.doc q 1 a.steps in
+    ran_as s (and_then r next) (run_of_ask s.doc number a) x z result
+    (sym (ask_run s.doc number a q at))
+    (ran_then s r next v x y z result
+    (can_as s (run_of_ask s.doc number a) (and_then r next) (ask_run s.doc number a q at) can) h
+    (ran_as s (followed s.doc q 1 xs v) (next v) y z result
+    (ap (λ (l : List PathStep). followed s.doc q 1 l v) are) then))

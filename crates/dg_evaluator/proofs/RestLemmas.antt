@@ -2,9 +2,10 @@
 use Rattle.std.proofs.Common.{◌≡◌, List, [], Option, Result, Ok, Err, sym, ap, subst, ◌∙◌}
 use Rattle.dg_eval.specs.Runs.{Asked, Run, and_then, asks_of}
 use Rattle.dg_requests.specs.declared.stop.Stop.{Stop}
+use Rattle.dg_requests.specs.declared.stop.Stop.TheVariants as stop
 use Rattle.dg_requests.specs.Scopes.{Scope}
 use Rattle.dg_requests.specs.Results.{CanRun, Gave, Ran}
-use Rattle.dg_requests.proofs.RanLemmas.{can_first, can_rest, ran_plain, ran_stops, ran_then}
+use Rattle.dg_requests.proofs.RanLemmas.{can_first, can_rest, ran_nothing, ran_plain, ran_stops, ran_then}
 
 -- ---- after a run
 
@@ -71,3 +72,13 @@ pub left_plain : {A : Type 0} (s : Scope) (whole r : Run A) (old now : Option (L
     → Ran s whole old now result
 left_plain s whole r old now result rest quiet gave =
     rest.back now result (ran_plain s r now result quiet gave)
+
+-- memory lacks for what is left
+pub left_lacks : {A : Type 0} (s : Scope) (whole r : Run A) (old now : Option (List Asked))
+    → (d : Stop) (result : Result A Stop) → Rest s whole old r now → result ≡ Err d
+    → d ≡ stop.NoMemory → Ran s whole old now result
+left_lacks {A} s whole r old now d result rest gave same =
+    let err : Stop → Result A Stop = λ u. Err u in
+    let to : err stop.NoMemory ≡ result = ap err (sym same) ∙ sym gave in
+    subst (λ (u : Result A Stop). Ran s whole old now u) to
+    (rest.back now (Err stop.NoMemory) (ran_nothing s r now))

@@ -116,6 +116,31 @@ given_stops s f i k q run next a b e d result by can h gave same =
     (stopped s r next a b e d result (can_as s run (and_then r next) by.is can)
     (h by.node by.is_node) gave same)
 
+-- the same, of a list that is what was given
+pub given_next_as : {A : Type 0} (s : Scope) (f : Eval) (i k : ℕ) (q : Place) (run : Run A)
+    → (next : List Value → Run A) (a b : Option (List Asked)) (vs ws : List Value) → ws ≡ vs
+    → ByGiven s.doc f i k q run next → CanRun s run → WasGiven s f i k q a b (Ok vs)
+    → CanRun s (next ws)
+given_next_as s f i k q run next a b vs ws e by can h =
+    can_as s (next vs) (next ws) (sym (ap next e)) (given_next s f i k q run next a b vs by can h)
+
+pub given_then_as : {A : Type 0} (s : Scope) (f : Eval) (i k : ℕ) (q : Place) (run : Run A)
+    → (next : List Value → Run A) (a b d : Option (List Asked)) (vs ws : List Value)
+    → (result : Result A Stop) → ws ≡ vs → ByGiven s.doc f i k q run next → CanRun s run
+    → WasGiven s f i k q a b (Ok vs) → Ran s (next ws) b d result → Ran s run a d result
+given_then_as s f i k q run next a b d vs ws result e by can h then =
+    given_then s f i k q run next a b d vs result by can h
+    (ran_as s (next ws) (next vs) b d result (ap next e) then)
+
+pub given_plain_as : {A : Type 0} (s : Scope) (f : Eval) (i k : ℕ) (q : Place) (run : Run A)
+    → (next : List Value → Run A) (a b : Option (List Asked)) (vs ws : List Value)
+    → (result : Result A Stop) → ws ≡ vs → ByGiven s.doc f i k q run next → CanRun s run
+    → WasGiven s f i k q a b (Ok vs) → asks_of (next ws) ≡ [] → Gave (next ws) result
+    → Ran s run a b result
+given_plain_as s f i k q run next a b vs ws result e by can h quiet gave =
+    given_then_as s f i k q run next a b b vs ws result e by can h
+    (ran_plain s (next ws) b result quiet gave)
+
 -- ---- runs that ask for nothing
 
 pub quiet_option : {A : Type 0} (o : Option A) → asks_of (or_mistyped o) ≡ []

@@ -15,7 +15,7 @@ use dg_bodies::{elements, entry_value, set_of};
 use dg_requests::{Below, Cells, InScope, Stop, look, mistyped};
 use dg_types::NoMemory;
 use dg_value::{Kept, Shared, Value};
-use sqlite_items::Items;
+use sqlite_items::{Items, at};
 use std::alloc::Global;
 
 /// Copies of some values.
@@ -180,10 +180,11 @@ fn added_by_all<S: InScope, C: Cells, B: Below<C>>(
 {
     let mut all = Items::new(alloc);
     for (index, flag) in flags.iter().enumerate() {
-        if let Some(value) = values.get(index) {
-            let more = added::<S, C, B>(alloc, of_outcomes, *flag, value, below, depth, cells)?;
-            all.append(more)?;
-        }
+        let Some(value) = at(values, index) else {
+            return Ok(all);
+        };
+        let more = added::<S, C, B>(alloc, of_outcomes, *flag, value, below, depth, cells)?;
+        all.append(more)?;
     }
     Ok(all)
 }

@@ -15,7 +15,7 @@ use dg_eval::World;
 use dg_requests::{Stop, bound_value, mistyped};
 use dg_types::{MapKeyVal, NoMemory};
 use dg_value::{Shared, Value};
-use sqlite_items::Items;
+use sqlite_items::{Items, at};
 use std::alloc::Global;
 
 /// The value of a bound argument.
@@ -63,9 +63,10 @@ fn entries(
 {
     let mut entries = Items::new(alloc);
     for (index, key) in keys.iter().enumerate() {
-        if let Some(value) = values.get(index) {
-            entries.push((key.clone()?, value.copy()?))?;
-        }
+        let Some(value) = at(values, index) else {
+            return Ok(entries);
+        };
+        entries.push((key.clone()?, value.copy()?))?;
     }
     Ok(entries)
 }

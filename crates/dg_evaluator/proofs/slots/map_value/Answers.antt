@@ -1,8 +1,11 @@
-use Rattle.std.proofs.Common.{◌≡◌, refl}
+use Rattle.std.proofs.Common.{◌≡◌, refl, is_some, ap}
 use Rattle.std.proofs.lemmas.Result.{err_from_is_err_and}
 use Rattle.dg_eval.specs.Meaning.{eval}
-use Rattle.dg_evaluator.proofs.SlotLemmas.{given_can, given_plain, given_stops, map_by}
+use Rattle.dg_evaluator.proofs.SlotLemmas.{given_can, given_plain_as, given_stops, map_by}
 use Rattle.dg_evaluator.proofs.slots.map_value.Goals as goal
+
+pub given-requires-clause-there : goal.given-requires-clause-there
+given-requires-clause-there g c = ap is_some c.requires.body.is_node
 
 pub given-requires-clause-can : goal.given-requires-clause-can
 given-requires-clause-can g c =
@@ -24,7 +27,7 @@ returns-in_err-values-clause-ran g c =
 pub returns-clause-ran : goal.returns-clause-ran
 returns-clause-ran g c =
     let s = g.S.InScope.scope in
-    given_plain s (eval s.doc c.args.depth) c.args.inst c.args.slot c.args.place.now _ _ _ _
-    c.in_ok-values.values c.map_of.result
+    given_plain_as s (eval s.doc c.args.depth) c.args.inst c.args.slot c.args.place.now _ _ _ _
+    c.in_ok-values.values c.as_slice.result.now c.map_of.result c.as_slice.ensures
     (map_by s.doc c.args.depth c.args.inst c.args.slot c.args.place.now c.args.keys.now
     c.requires.body) c.requires.can c.in_ok-values.ensures.ran refl c.map_of.ensures.exact

@@ -1,8 +1,11 @@
-use Rattle.std.proofs.Common.{◌≡◌}
+use Rattle.std.proofs.Common.{◌≡◌, is_some, ap}
 use Rattle.std.proofs.lemmas.Result.{err_from_is_err_and}
 use Rattle.dg_eval.specs.Meaning.{eval}
 use Rattle.dg_evaluator.proofs.SlotLemmas.{given_can, given_plain, given_stops, quiet_optional, optional_by}
 use Rattle.dg_evaluator.proofs.slots.optional_value.Goals as goal
+
+pub given-requires-clause-there : goal.given-requires-clause-there
+given-requires-clause-there g c = ap is_some c.requires.body.1.is_node
 
 pub given-requires-clause-can : goal.given-requires-clause-can
 given-requires-clause-can g c =

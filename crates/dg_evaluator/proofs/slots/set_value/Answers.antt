@@ -1,9 +1,12 @@
-use Rattle.std.proofs.Common.{◌≡◌}
+use Rattle.std.proofs.Common.{◌≡◌, is_some, ap}
 use Rattle.std.proofs.lemmas.Result.{err_from_is_err_and}
 use Rattle.dg_eval.specs.Meaning.{eval}
-use Rattle.dg_evaluator.proofs.SlotLemmas.{given_can, given_next, given_then, given_stops}
+use Rattle.dg_evaluator.proofs.SlotLemmas.{given_can, given_next_as, given_then_as, given_stops}
 use Rattle.dg_evaluator.proofs.SetLemmas.{set_by}
 use Rattle.dg_evaluator.proofs.slots.set_value.Goals as goal
+
+pub given-requires-clause-there : goal.given-requires-clause-there
+given-requires-clause-there g c = ap is_some c.requires.body.is_node
 
 pub given-requires-clause-can : goal.given-requires-clause-can
 given-requires-clause-can g c =
@@ -26,8 +29,8 @@ returns-in_err-values-clause-ran g c =
 pub set-requires-clause-can : goal.set-requires-clause-can
 set-requires-clause-can g c =
     let s = g.S.InScope.scope in
-    given_next s (eval s.doc c.args.depth) c.args.inst c.args.slot c.args.place.now _ _ _ _
-    c.in_ok-values.values
+    given_next_as s (eval s.doc c.args.depth) c.args.inst c.args.slot c.args.place.now _ _ _ _
+    c.in_ok-values.values c.as_slice.result.now c.as_slice.ensures
     (set_by s.doc c.requires.fit.accepted c.args.depth c.args.inst c.args.slot c.args.place.now
     c.args.of_outcomes c.args.flags.now c.requires.body) c.requires.can
     c.in_ok-values.ensures.ran
@@ -35,8 +38,8 @@ set-requires-clause-can g c =
 pub returns-clause-ran : goal.returns-clause-ran
 returns-clause-ran g c =
     let s = g.S.InScope.scope in
-    given_then s (eval s.doc c.args.depth) c.args.inst c.args.slot c.args.place.now _ _ _ _ _
-    c.in_ok-values.values c.set.result
+    given_then_as s (eval s.doc c.args.depth) c.args.inst c.args.slot c.args.place.now _ _ _ _ _
+    c.in_ok-values.values c.as_slice.result.now c.set.result c.as_slice.ensures
     (set_by s.doc c.requires.fit.accepted c.args.depth c.args.inst c.args.slot c.args.place.now
     c.args.of_outcomes c.args.flags.now c.requires.body) c.requires.can
     c.in_ok-values.ensures.ran c.set.ensures.ran
