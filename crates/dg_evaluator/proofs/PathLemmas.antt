@@ -191,13 +191,30 @@ path_ends s whole q xs i v a b le rest =
     (left_as s whole _ _ a b
     (ap (λ (l : List PathStep). followed s.doc q (suc i) l v) (dropped xs i le)) rest) refl refl
 
-pub path_absent : (s : Scope) (whole : Run Reached) (r : Run Reached)
-    → (next : Value → Run Reached) (a b d : Option (List Asked))
-    → Rest s whole a (and_then r (goes_on next)) b → Ran s r b d (Ok not_there)
+-- after a step that gives a value the rest of the path is left
+pub path_goes : (s : Scope) (whole : Run Reached) (q : Place) (xs : List PathStep) (i : ℕ)
+    → (x : PathStep) (v w : Value) (came : Reached) (a b d : Option (List Asked))
+    → slice_get xs i ≡ Some x → Rest s whole a (FromStep s.doc q xs i v) b
+    → Ran s (step_run s.doc q (suc i) x v) b d (Ok came) → came ≡ value_there w
+    → Rest s whole a (FromStep s.doc q xs (i + 1) w) d
+path_goes s whole q xs i x v w came a b d is rest h same =
+    left_as s whole _ _ a d
+    (ap (λ (r : Reached). goes_on (FromStep s.doc q xs (i + 1)) r) same)
+    (left_next s whole (step_run s.doc q (suc i) x v) (goes_on (FromStep s.doc q xs (i + 1))) a b d
+    came (path_next s whole q xs i x v a b is rest) h)
+
+-- where nothing is there the path ends
+pub path_stops : (s : Scope) (whole : Run Reached) (q : Place) (xs : List PathStep) (i : ℕ)
+    → (x : PathStep) (v : Value) (came : Reached) (a b d : Option (List Asked))
+    → slice_get xs i ≡ Some x → Rest s whole a (FromStep s.doc q xs i v) b
+    → Ran s (step_run s.doc q (suc i) x v) b d (Ok came) → came ≡ not_there
     → Ran s whole a d (Ok not_there)
-path_absent s whole r next a b d rest h =
+path_stops s whole q xs i x v came a b d is rest h same =
     left_plain s whole (gives not_there) a d (Ok not_there)
-    (left_next s whole r (goes_on next) a b d not_there rest h) refl refl
+    (left_as s whole _ _ a d
+    (ap (λ (r : Reached). goes_on (FromStep s.doc q xs (i + 1)) r) same)
+    (left_next s whole (step_run s.doc q (suc i) x v) (goes_on (FromStep s.doc q xs (i + 1))) a b d
+    came (path_next s whole q xs i x v a b is rest) h)) refl refl
 
 -- ---- the class of an instance
 

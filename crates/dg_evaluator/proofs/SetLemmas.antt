@@ -194,7 +194,9 @@ pub cons_left : {A : Type 0} (xs : List A) (i : ℕ) (x : A) → slice_get xs i 
     → drop i xs ≡ x ∷ drop (i + 1) xs
 cons_left [] i x e = absurd (none-some x e)
 cons_left (y ∷ ys) zero x e = ap (λ (z : _). z ∷ ys) (same_Some y x e)
-cons_left (y ∷ ys) (suc i) x e = cons_left ys i x e
+cons_left (y ∷ ys) (suc i) x e =
+    let next : suc (i + 1) ≡ suc i + 1 = omega arith in
+    cons_left ys i x e ∙ ap (λ (n : ℕ). x ∷ drop n (y ∷ ys)) next
 
 -- there are no more values
 pub adding_stops : (s : Scope) (whole : Run (List Value)) (form : Inner)
@@ -271,6 +273,10 @@ paired_next es fs ks vs i k v all is value e same =
     ap (λ (l : List (MapKeyVal × Value)). l ++ pairs (drop (i + 1) ks) (drop (i + 1) vs)) same
     ∙ append_assoc es ((k, v) ∷ []) (pairs (drop (i + 1) ks) (drop (i + 1) vs))
     ∙ sym (λ j. es ++ pairs (cons_left ks i k is j) (cons_left vs i v value j)) ∙ e
+
+pub pushed_pair : (es fs : List (MapKeyVal × Value)) (j k : MapKeyVal) (w v : Value)
+    → fs ≡ es ++ (j, w) ∷ [] → j ≡ k → w ≡ v → fs ≡ es ++ (k, v) ∷ []
+pushed_pair es fs j k w v e key value = e ∙ (λ i. es ++ (key i, value i) ∷ [])
 
 no_pairs : (ks : List MapKeyVal) → pairs ks [] ≡ []
 no_pairs [] = refl

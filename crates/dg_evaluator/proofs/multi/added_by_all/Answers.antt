@@ -7,12 +7,12 @@ use Rattle.dg_evaluator.proofs.RestLemmas.{left_first, left_next, left_stops, le
 use Rattle.dg_evaluator.proofs.SetLemmas.{adding_next, adding_step, adding_stops, adding_ends}
 use Rattle.dg_evaluator.proofs.multi.added_by_all.Goals as goal
 
-pub returns-in_default-at-clause-ran : goal.returns-in_default-at-clause-ran
-returns-in_default-at-clause-ran g c =
+pub returns-in_default-clause-ran : goal.returns-in_default-clause-ran
+returns-in_default-clause-ran g c =
     let s = g.S.InScope.scope in
     adding_stops s _ (form_of c.args.of_outcomes) (look (eval s.doc c.args.depth) c.args.depth)
     c.loop-index.all c.args.flags.now c.args.values.now c.loop-index.index _ _
-    c.in_default-at.ensures c.loop-index.invariant.rest
+    c.in_default.ensures c.loop-index.invariant.rest
 
 pub added-requires-clause-can : goal.added-requires-clause-can
 added-requires-clause-can g c =

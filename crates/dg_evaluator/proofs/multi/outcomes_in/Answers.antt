@@ -1,20 +1,13 @@
 use Rattle.dg_eval.specs.Meaning.{look, eval}
-use Rattle.dg_evaluator.proofs.SetLemmas.{outcome_can, outcome_ran, outcome_alone}
+use Rattle.dg_evaluator.proofs.SetLemmas.{outcome_can, outcome_alone}
 use Rattle.dg_evaluator.proofs.multi.outcomes_in.Goals as goal
 
 pub outcomes_behind-requires-clause-can : goal.outcomes_behind-requires-clause-can
 outcomes_behind-requires-clause-can g c =
     let s = g.S.InScope.scope in
     outcome_can s (look (eval s.doc c.args.depth) c.args.depth) c.args.value.now
-    c.in-Some.set.now c.in_ok-copy.field-0 c.in-Some.ensures.exact c.in_ok-copy.ensures.exact
+    c.in-Some.set.now c.in_ok-copy-in-Some.field-0 c.in-Some.ensures.exact c.in_ok-copy-in-Some.ensures.exact
     c.requires.can
-
-pub returns-in-Some-clause-ran : goal.returns-in-Some-clause-ran
-returns-in-Some-clause-ran g c =
-    let s = g.S.InScope.scope in
-    outcome_ran s (look (eval s.doc c.args.depth) c.args.depth) c.args.value.now
-    c.in-Some.set.now c.in_ok-copy.field-0 _ _ c.outcomes_behind.result c.in-Some.ensures.exact
-    c.in_ok-copy.ensures.exact c.outcomes_behind.ensures.ran
 
 pub returns-in_ok-alone-in-None-clause-ran : goal.returns-in_ok-alone-in-None-clause-ran
 returns-in_ok-alone-in-None-clause-ran g c =
