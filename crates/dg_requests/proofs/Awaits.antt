@@ -1,6 +1,6 @@
 -- What a body calls fits an `await`: it is a way to a slot that is no entry and, where that is a
 -- production, to what a binding gives.
-use Rattle.std.proofs.Common.{◌≡◌, ℕ, zero, suc, Bool, true, false, ◌||◌, List, [], ◌∷◌, filter_map, slice_get, Contains, Option, Some, None, option_map, Result, Ok, Err, refl, sym, ap, subst, ◌∙◌}
+use Rattle.std.proofs.Common.{◌≡◌, ℕ, zero, suc, Bool, true, false, ◌||◌, List, [], ◌∷◌, filter_map, slice_get, Contains, Option, Some, None, option_map, Ok, Err, refl, sym, ap, subst, ◌∙◌}
 use Rattle.std.specs.Option.{option_map_or}
 use Rattle.std.proofs.lemmas.Bool.{false≢true}
 use Rattle.std.proofs.lemmas.Option.{none-some, same_Some}
@@ -25,7 +25,7 @@ use Rattle.dg_decl.specs.declared.violation.Rule.TheVariants as rule
 use Rattle.dg_decl.specs.Diagnostics.{IsAccepted}
 use Rattle.dg_decl.specs.Names.{item_at, params_of}
 use Rattle.dg_decl.specs.Graph.{Dependency, asked, of_param, of_params, deps, target, node_of, nodes}
-use Rattle.dg_decl.specs.Sizes.{is_entry, is_production}
+use Rattle.dg_decl.specs.Sizes.{is_production}
 use Rattle.dg_decl.specs.Stages.Bindings.{at_request, is_provision, is_provider_mode, is_production_found, depends_on_production}
 use Rattle.dg_decl.proofs.MemberLemmas.{none_in, in_got, in_filter_map, out_filter_map, out_list_of, out_option_map}
 use Rattle.dg_value.specs.declared.place.Place.{Place}

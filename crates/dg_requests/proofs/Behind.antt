@@ -1,5 +1,5 @@
 -- The producer behind a slot, one step after another.
-use Rattle.std.proofs.Common.{◌≡◌, ◌≢◌, ◌<◌, ℕ, zero, suc, ◌-◌, Bool, true, false, cond, not, ◌||◌, List, [], ◌∷◌, slice_get, Contains, Option, Some, None, option_map, option_and_then, refl, sym, ap, subst, ◌∙◌, arith}
+use Rattle.std.proofs.Common.{◌≡◌, ◌≢◌, ◌<◌, ℕ, zero, suc, ◌-◌, Bool, true, false, cond, not, ◌||◌, List, [], slice_get, Contains, Option, Some, None, option_map, option_and_then, refl, sym, ap, subst, ◌∙◌, arith}
 use Rattle.std.specs.Option.{option_map_or}
 use Rattle.std.proofs.lemmas.Bool.{false≢true}
 use Rattle.std.proofs.lemmas.Option.{none-some, same_Some}
@@ -25,7 +25,7 @@ use Rattle.dg_eval.proofs.InputLists.{given_at}
 use Rattle.dg_eval.proofs.TargetLemmas.{target_is, first_shallow}
 use Rattle.dg_requests.specs.declared.context.Target.{Target}
 use Rattle.dg_requests.specs.Contexts.{IsContextOf, IsInputFor, as_look, is_kept, is_producing, gives_first_param, as_instance, passed_by, IsBound, WalksAreShort, IsProducerOf, IsBehind}
-use Rattle.dg_requests.proofs.ContextLemmas.{FindsTarget, finds_target, in_class_is}
+use Rattle.dg_requests.proofs.ContextLemmas.{finds_target, in_class_is}
 use Rattle.dg_requests.proofs.NodeKinds.{node_fits}
 use Rattle.dg_requests.proofs.Productions.{producer_is}
 use Rattle.dg_requests.proofs.Passing.{is_never, producing_cell, no_producer, takes_none, TakesOne, takes_one}

@@ -1,7 +1,6 @@
 -- What a `get` gives, and where an `await` leads.
-use Rattle.std.proofs.Common.{◌≡◌, ◌≢◌, ℕ, Bool, true, false, cond, List, [], Option, Some, None, Result, Ok, Err, refl, sym, ap, subst, ◌∙◌}
+use Rattle.std.proofs.Common.{◌≡◌, ◌≢◌, ℕ, Bool, true, false, cond, List, Option, Some, None, Result, Ok, Err, refl, sym, ap, subst, ◌∙◌}
 use Rattle.std.specs.Option.{option_map_or}
-use Rattle.std.proofs.lemmas.Bool.{false≢true}
 use Rattle.std.proofs.lemmas.Option.{none-some, same_Some}
 use Rattle.dg_decl.specs.declared.document.Doc.{Doc}
 use Rattle.dg_decl.specs.declared.graph.Node.{Node}
@@ -23,7 +22,7 @@ use Rattle.dg_requests.specs.declared.stop.Stop.TheVariants as stop
 use Rattle.dg_requests.specs.Scopes.{Scope}
 use Rattle.dg_requests.specs.Results.{CanRun, Gave, Ran, ends}
 use Rattle.dg_requests.specs.Contexts.{as_look, IsProducerOf, IsBehind}
-use Rattle.dg_requests.proofs.RanLemmas.{can_as, can_first, ran_as, ran_plain, ran_stops, ran_then}
+use Rattle.dg_requests.proofs.RanLemmas.{can_as, can_first, ran_as, ran_plain}
 use Rattle.dg_requests.proofs.ContextLemmas.{in_class_is}
 
 -- ---- ends in values

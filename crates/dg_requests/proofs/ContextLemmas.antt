@@ -28,7 +28,7 @@ use Rattle.dg_eval.specs.World.{constant, inst_at, class_of_inst, parent_of_inst
 use Rattle.dg_eval.specs.Meaning.{node_at, node_in, is_cell_node, is_cell, target_of}
 use Rattle.dg_eval.specs.Inputs.{counted_from, inst_led}
 use Rattle.dg_eval.proofs.InputLemmas.{inputs_are_look_ups}
-use Rattle.dg_requests.specs.Contexts.{IsContextOf, IsInputFor, of_class, slot_there, is_kept, is_kept_at, value_at, parent_at, counted_at}
+use Rattle.dg_requests.specs.Contexts.{IsContextOf, IsInputFor, slot_there, is_kept, is_kept_at, value_at, parent_at, counted_at}
 
 -- ---- slots
 
