@@ -85,6 +85,11 @@ pub evaluation_ends : EvaluationEnds
 unfolding end_of_slot
 evaluation_ends doc i k q = eval_ends doc 127 i k q
 
+pub whole_is : (doc : Doc) (i k : ℕ) (q : Place)
+    → end_of_slot doc i k q ≡ end_over doc (eval doc 127) 127 i k q
+unfolding end_of_slot
+whole_is doc i k q = refl
+
 -- ---- depths
 
 pub some_depth : (s : Scope) (depth i k : ℕ) (q : Place) → CanRun s (eval s.doc depth i k q)

@@ -62,7 +62,7 @@ abbrev pub outcome_in : Result End Stop → Result Outcome NoMemory
 outcome_in (Ok (value_end v)) = Ok (outcome.Kept (kept.Value v))
 outcome_in (Ok (producer_end i k)) = Ok (outcome.Forward i k)
 outcome_in (Err (stop.Failed f)) = Ok (outcome.Kept (kept.Failed f))
-outcome_in (Err stop.NoMemory) = Err (record { })
+outcome_in (Err stop.NoMemory) = Err (record {})
 
 -- ---- asks
 
@@ -90,7 +90,7 @@ abbrev pub reply_in : Result asks.Reached Stop → Result Reply NoMemory
 reply_in (Ok (value_there v)) = Ok (reply.Value v)
 reply_in (Ok not_there) = Ok reply.Absent
 reply_in (Err (stop.Failed f)) = Ok (reply.Failed f)
-reply_in (Err stop.NoMemory) = Err (record { })
+reply_in (Err stop.NoMemory) = Err (record {})
 
 -- the slot of the entry that an ask asks for, by the lists of a plan and a world
 abbrev pub entry_there : Plan → World → Ask → Option ℕ

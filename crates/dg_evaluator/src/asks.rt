@@ -217,7 +217,15 @@ fn ask_over<S: InScope, C: Cells, B: Below<C>>(
 {
     let place = Place::at_root(alloc, PlaceRoot::Ask(number));
     let value = requested::<S, C, B>(alloc, plan, world, ask, &place, below, cells)?;
-    followed::<S, C, B>(alloc, plan, &place, ask.steps.as_slice(), value, below, cells)
+    followed::<S, C, B>(
+        alloc,
+        plan,
+        &place,
+        ask.steps.as_slice(),
+        value,
+        below,
+        cells,
+    )
 }
 
 /// An ask of this number.

@@ -232,7 +232,6 @@ pub fn set<S: InScope, C: Cells, B: Below<C>>(
     ensures ran { Ran S.scope (set_made of_outcomes (meaning.look (meaning.eval S.scope.doc depth) depth) flags.now values.now) (C.asked cells.old) (C.asked cells.new) result }
     ensures same { C.scope cells.new ≡ S.scope }
 {
-    let added =
-        added_by_all::<S, C, B>(alloc, of_outcomes, flags, values, below, depth, cells)?;
+    let added = added_by_all::<S, C, B>(alloc, of_outcomes, flags, values, below, depth, cells)?;
     set_of_added::<S, C, B>(alloc, of_outcomes, added, below, depth, cells)
 }

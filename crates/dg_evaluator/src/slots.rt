@@ -147,7 +147,15 @@ fn set_value<S: InScope, C: Cells, B: Below<C>>(
     ensures same { C.scope cells.new ≡ S.scope }
 {
     let values = given::<S, C, B>(alloc, plan, world, inst, slot, place, below, depth, cells)?;
-    set::<S, C, B>(alloc, of_outcomes, flags, values.as_slice(), below, depth, cells)
+    set::<S, C, B>(
+        alloc,
+        of_outcomes,
+        flags,
+        values.as_slice(),
+        below,
+        depth,
+        cells,
+    )
 }
 
 /// Whether a set of what a slot is given is one of outcomes.
@@ -372,7 +380,17 @@ pub fn eval<S: InScope, C: Cells>(
         ensures same { C.scope c.new ≡ S.scope }
     { eval::<S, C>(alloc, plan, world, i, k, &q, depth - 1, c) };
     let below = Deeper { run: deeper };
-    value_of::<S, C, _>(alloc, plan, world, inst, slot, place, &below, depth - 1, cells)
+    value_of::<S, C, _>(
+        alloc,
+        plan,
+        world,
+        inst,
+        slot,
+        place,
+        &below,
+        depth - 1,
+        cells,
+    )
 }
 
 /// Where a slot ends in an instance at a place, at a depth that is enough.

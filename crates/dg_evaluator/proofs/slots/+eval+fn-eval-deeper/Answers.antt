@@ -11,8 +11,11 @@ overflow_sub-depth g t c =
 
 pub value_of-requires-clause-below : goal.value_of-requires-clause-below
 value_of-requires-clause-below g t c =
-    search (rules, some_depth g.S.InScope.scope c.args.depth c.args.inst c.args.slot
-    c.args.place.now c.requires.can)
+    search (
+      rules,
+      some_depth g.S.InScope.scope c.args.depth c.args.inst c.args.slot
+          c.args.place.now c.requires.can,
+    )
 
 pub value_of-requires-clause-can : goal.value_of-requires-clause-can
 value_of-requires-clause-can g t c =
