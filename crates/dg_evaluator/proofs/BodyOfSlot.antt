@@ -1,9 +1,8 @@
 -- In an accepted document the body of a slot says where its node ends.
-use Rattle.std.proofs.Common.{◌≡◌, ℕ, zero, suc, ◌+◌, Bool, true, false, not, List, [], ◌∷◌, ◌++◌, length, map, filter, filter_map, slice_get, Contains, Option, Some, None, Result, Ok, Err, option_map, option_and_then, option_to_list, unwrap_or, refl, sym, ap, subst, ◌∙◌, append_assoc, arith}
+use Rattle.std.proofs.Common.{◌≡◌, ℕ, suc, ◌+◌, Bool, true, false, not, List, [], ◌∷◌, ◌++◌, length, map, filter, filter_map, slice_get, Option, Some, None, Ok, Err, option_map, option_to_list, unwrap_or, refl, sym, ap, subst, ◌∙◌, append_assoc, arith}
 use Rattle.std.specs.List.{cons_option, enumerate_from, range_with_len}
 use Rattle.std.specs.Option.{option_map_or}
 use Rattle.std.proofs.lemmas.Bool.{false≢true}
-use Rattle.std.proofs.lemmas.Option.{none-some, same_Some}
 use Rattle.std.proofs.lemmas.List.{length-map, append-nil}
 use Rattle.std.proofs.lemmas.List.FromFn.{length-enumerate_from}
 use Rattle.dg_types.specs.declared.key.Core.{Core}
@@ -12,7 +11,6 @@ use Rattle.dg_lex.specs.Bytes.{Bytes}
 use Rattle.dg_types.specs.declared.key.Key.{Key}
 use Rattle.dg_types.specs.Requests.{is_plain_use}
 use Rattle.dg_decl.specs.declared.document.Doc.{Doc}
-use Rattle.dg_decl.specs.declared.binding.BindRef.{BindRef}
 use Rattle.dg_decl.specs.declared.binding.BindRef.TheVariants as binding
 use Rattle.dg_decl.specs.declared.graph.Node.{Node}
 use Rattle.dg_decl.specs.declared.graph.NodeKind.{NodeKind}
@@ -43,15 +41,13 @@ use Rattle.dg_slots.specs.Numbered.{number_of_class_item}
 use Rattle.dg_slots.specs.Plans.{one_param, construction, body_of_item, body_of_binding, body_of_multi, is_empty, body_of_node}
 use Rattle.dg_value.specs.declared.place.Place.{Place}
 use Rattle.dg_value.specs.declared.place.PlaceStep.TheVariants as step
-use Rattle.dg_value.specs.declared.value.Failure.{Failure}
 use Rattle.dg_value.specs.declared.value.Value.{Value}
 use Rattle.dg_value.specs.declared.value.Value.TheVariants as value
 use Rattle.dg_value.specs.Places.{then_step}
 use Rattle.dg_eval.specs.Runs.{Asked, Run, gives, before, and_then, both, all, in_order, mistyped}
-use Rattle.dg_eval.specs.World.{bound_value}
 use Rattle.dg_eval.specs.Operations.{or_mistyped, only_of}
 use Rattle.dg_eval.specs.Bodies.{End, value_end, Around, Part, runs_of, cond_at, expr_at, expr_part, cond_part, tree_at, tree_part}
-use Rattle.dg_eval.specs.Meaning.{node_at, Eval, given_one, given, param_in, around, end_with, object_of, member_end, binding_at, eval_node, optional_of}
+use Rattle.dg_eval.specs.Meaning.{node_at, Eval, given_one, given, param_in, around, end_with, object_of, member_end}
 use Rattle.dg_eval.proofs.AcceptedDepth.{stages_of_accepted}
 use Rattle.dg_eval.proofs.CallLemmas.{HasRequest, plain_asks, params_ask, asked_for, all_asked, item_fits}
 use Rattle.dg_eval.proofs.RunResults.{Each}

@@ -3,9 +3,7 @@ use Rattle.std.proofs.Common.{◌≡◌, ℕ, true, not, List, [], ◌∷◌, �
 use Rattle.std.specs.List.{range_with_len}
 use Rattle.std.specs.Option.{option_map_or}
 use Rattle.dg_decl.specs.declared.document.Doc.{Doc}
-use Rattle.dg_decl.specs.declared.binding.BindRef.{BindRef}
 use Rattle.dg_decl.specs.declared.binding.BindRef.TheVariants as binding
-use Rattle.dg_decl.specs.declared.graph.Node.{Node}
 use Rattle.dg_decl.specs.declared.graph.NodeKind.{NodeKind}
 use Rattle.dg_decl.specs.declared.graph.NodeKind.TheVariants as node
 use Rattle.dg_decl.specs.declared.item.Item.{Item}
@@ -22,7 +20,7 @@ use Rattle.dg_slots.specs.declared.body.NTree.TheOpen.{NTree-F}
 use Rattle.dg_slots.specs.declared.body.NTree.TheVariants as ntree
 use Rattle.dg_slots.specs.declared.plan.Body.TheVariants as body
 use Rattle.dg_slots.specs.Numbered.{number_of_class_item}
-use Rattle.dg_slots.specs.Plans.{one_param, construction, body_of_item, body_of_binding, body_of_multi, is_empty, body_of_node}
+use Rattle.dg_slots.specs.Plans.{one_param, body_of_item, body_of_multi, is_empty, body_of_node}
 use Rattle.dg_value.specs.declared.place.Place.{Place}
 use Rattle.dg_value.specs.declared.value.Value.{Value}
 use Rattle.dg_eval.specs.Runs.{Asked}
@@ -35,7 +33,7 @@ use Rattle.dg_requests.proofs.Awaits.{given_fits}
 use Rattle.dg_requests.proofs.ContextLemmas.{in_class_is}
 use Rattle.dg_requests.proofs.NodeKinds.{IsInjected, KindFits, node_fits}
 use Rattle.dg_evaluator.specs.Answers.{HasBody}
-use Rattle.dg_evaluator.proofs.BodyOfSlot.{tree_is, expr_is, param_part, is_run, run_tree, not_run, multi_not_run}
+use Rattle.dg_evaluator.proofs.BodyOfSlot.{tree_is, expr_is, param_part, run_tree, not_run, multi_not_run}
 use Rattle.dg_evaluator.proofs.SlotLemmas.{WasGiven}
 
 -- ---- bodies without calls

@@ -65,7 +65,8 @@ fn entry_at(alloc: Global, key: &MapKeyVal, map: &Value) -> Result<Reached, Stop
 
 /// What is inside an optional.
 fn inside_of(alloc: Global, optional: &Value) -> Result<Reached, Stop>
-    ensures exact { Gave (spec.inside_reached (operations.inside_in optional.now)) (reaches result) }
+    ensures exact { Gave (spec.inside_reached (operations.inside_in optional.now))
+        (reaches result) }
 {
     match inside(optional) {
         Some(inside) => present(inside),
@@ -87,7 +88,8 @@ fn stepped<S: InScope, C: Cells, B: Below<C>>(
     requires below { IsBelow C.scope C.asked B.can_eval B.eval_gives below.now S.scope 128 }
     requires same { C.scope cells.old ≡ S.scope }
     requires can { CanRun S.scope (spec.stepped S.scope.doc place step.now value.now) }
-    ensures ran { Ran S.scope (spec.stepped S.scope.doc place step.now value.now) (C.asked cells.old) (C.asked cells.new) (reaches result) }
+    ensures ran { Ran S.scope (spec.stepped S.scope.doc place step.now value.now)
+        (C.asked cells.old) (C.asked cells.new) (reaches result) }
     ensures same { C.scope cells.new ≡ S.scope }
 {
     match step {
@@ -125,7 +127,8 @@ fn step_from<S: InScope, C: Cells, B: Below<C>>(
     requires below { IsBelow C.scope C.asked B.can_eval B.eval_gives below.now S.scope 128 }
     requires same { C.scope cells.old ≡ S.scope }
     requires can { CanRun S.scope (step_run S.scope.doc place.now (suc index) step.now value) }
-    ensures ran { Ran S.scope (step_run S.scope.doc place.now (suc index) step.now value) (C.asked cells.old) (C.asked cells.new) (reaches result) }
+    ensures ran { Ran S.scope (step_run S.scope.doc place.now (suc index) step.now value)
+        (C.asked cells.old) (C.asked cells.new) (reaches result) }
     ensures same { C.scope cells.new ≡ S.scope }
 {
     let seen = look::<S, C, B>(alloc, value, 128, below, 128, cells)?;
@@ -147,7 +150,8 @@ fn followed<S: InScope, C: Cells, B: Below<C>>(
     requires below { IsBelow C.scope C.asked B.can_eval B.eval_gives below.now S.scope 128 }
     requires same { C.scope cells.old ≡ S.scope }
     requires can { CanRun S.scope (spec.followed S.scope.doc place.now 1 steps.now value) }
-    ensures ran { Ran S.scope (spec.followed S.scope.doc place.now 1 steps.now value) (C.asked cells.old) (C.asked cells.new) (reaches result) }
+    ensures ran { Ran S.scope (spec.followed S.scope.doc place.now 1 steps.now value)
+        (C.asked cells.old) (C.asked cells.new) (reaches result) }
     ensures same { C.scope cells.new ≡ S.scope }
 {
     let mut value = value;
@@ -187,7 +191,8 @@ fn requested<S: InScope, C: Cells, B: Below<C>>(
     requires below { IsBelow C.scope C.asked B.can_eval B.eval_gives below.now S.scope 128 }
     requires same { C.scope cells.old ≡ S.scope }
     requires can { CanRun S.scope (spec.requested S.scope.doc ask.now place.now) }
-    ensures ran { Ran S.scope (spec.requested S.scope.doc ask.now place.now) (C.asked cells.old) (C.asked cells.new) result }
+    ensures ran { Ran S.scope (spec.requested S.scope.doc ask.now place.now) (C.asked cells.old)
+        (C.asked cells.new) result }
     ensures same { C.scope cells.new ≡ S.scope }
 {
     match entry_slot(plan, world, ask) {
@@ -212,7 +217,8 @@ fn ask_over<S: InScope, C: Cells, B: Below<C>>(
     requires below { IsBelow C.scope C.asked B.can_eval B.eval_gives below.now S.scope 128 }
     requires same { C.scope cells.old ≡ S.scope }
     requires can { CanRun S.scope (spec.run_of_ask S.scope.doc number ask.now) }
-    ensures ran { Ran S.scope (spec.run_of_ask S.scope.doc number ask.now) (C.asked cells.old) (C.asked cells.new) (reaches result) }
+    ensures ran { Ran S.scope (spec.run_of_ask S.scope.doc number ask.now) (C.asked cells.old)
+        (C.asked cells.new) (reaches result) }
     ensures same { C.scope cells.new ≡ S.scope }
 {
     let place = Place::at_root(alloc, PlaceRoot::Ask(number));
@@ -240,14 +246,16 @@ fn whole_ask<S: InScope, C: Cells>(
     requires fit { IsFit S.scope plan.now world.now }
     requires same { C.scope cells.old ≡ S.scope }
     requires can { CanRun S.scope (spec.run_of_ask S.scope.doc number ask.now) }
-    ensures ran { Ran S.scope (spec.run_of_ask S.scope.doc number ask.now) (C.asked cells.old) (C.asked cells.new) (reaches result) }
+    ensures ran { Ran S.scope (spec.run_of_ask S.scope.doc number ask.now) (C.asked cells.old)
+        (C.asked cells.new) (reaches result) }
     ensures same { C.scope cells.new ≡ S.scope }
 {
     let deeper = |i: u32, k: u32, q: Place, c: &mut C| -> Result<Value, Stop>
         requires fit { IsFit S.scope plan.now world.now }
         requires same { C.scope c.old ≡ S.scope }
         requires can { CanRun S.scope (meaning.eval S.scope.doc 128 i k q) }
-        ensures ran { Ran S.scope (meaning.eval S.scope.doc 128 i k q) (C.asked c.old) (C.asked c.new) result }
+        ensures ran { Ran S.scope (meaning.eval S.scope.doc 128 i k q) (C.asked c.old)
+            (C.asked c.new) result }
         ensures same { C.scope c.new ≡ S.scope }
     { eval::<S, C>(alloc, plan, world, i, k, &q, 128, c) };
     let below = Deeper { run: deeper };
@@ -277,9 +285,13 @@ pub fn eval_ask<C: Cells>(
 ) -> Result<Reply, NoMemory>
     requires fit { IsFit (C.scope cells.old) plan.now world.now }
     requires ask { Contains (spec.numbered_asks (C.scope cells.old).doc) (number, ask.now) }
-    requires can { CanRun (C.scope cells.old) (spec.run_of_ask (C.scope cells.old).doc number ask.now) }
-    ensures exact { IfOk result (λ r. spec.answer_to (C.scope cells.old).doc number ask.now ≡ Some r) }
-    ensures asked { Asks (C.scope cells.old).doc (runs.asks_of (spec.run_of_ask (C.scope cells.old).doc number ask.now)) (C.asked cells.old) (C.asked cells.new) result }
+    requires can { CanRun (C.scope cells.old)
+        (spec.run_of_ask (C.scope cells.old).doc number ask.now) }
+    ensures exact { IfOk result
+        (λ r. spec.answer_to (C.scope cells.old).doc number ask.now ≡ Some r) }
+    ensures asked { Asks (C.scope cells.old).doc
+        (runs.asks_of (spec.run_of_ask (C.scope cells.old).doc number ask.now)) (C.asked cells.old)
+        (C.asked cells.new) result }
     ensures same { C.scope cells.new ≡ C.scope cells.old }
 {
     to_reply(whole_ask::<Brand, C>(alloc, plan, world, number, ask, cells))

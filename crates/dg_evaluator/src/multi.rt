@@ -83,8 +83,11 @@ fn elements_behind<S: InScope, C: Cells, B: Below<C>>(
     requires deep { depth ≤ 128 }
     requires closed { IsClosed S.scope }
     requires same { C.scope cells.old ≡ S.scope }
-    requires can { CanRun S.scope (and_then (meaning.look (meaning.eval S.scope.doc depth) depth value) spec.elements_in) }
-    ensures ran { Ran S.scope (and_then (meaning.look (meaning.eval S.scope.doc depth) depth value) spec.elements_in) (C.asked cells.old) (C.asked cells.new) result }
+    requires can { CanRun S.scope
+        (and_then (meaning.look (meaning.eval S.scope.doc depth) depth value) spec.elements_in) }
+    ensures ran { Ran S.scope
+        (and_then (meaning.look (meaning.eval S.scope.doc depth) depth value) spec.elements_in)
+        (C.asked cells.old) (C.asked cells.new) result }
     ensures same { C.scope cells.new ≡ S.scope }
 {
     let set = look::<S, C, B>(alloc, value, depth, below, depth, cells)?;
@@ -103,8 +106,11 @@ fn outcomes_behind<S: InScope, C: Cells, B: Below<C>>(
     requires deep { depth ≤ 128 }
     requires closed { IsClosed S.scope }
     requires same { C.scope cells.old ≡ S.scope }
-    requires can { CanRun S.scope (outcomes_behind (meaning.look (meaning.eval S.scope.doc depth) depth) set) }
-    ensures ran { Ran S.scope (outcomes_behind (meaning.look (meaning.eval S.scope.doc depth) depth) set) (C.asked cells.old) (C.asked cells.new) result }
+    requires can { CanRun S.scope
+        (outcomes_behind (meaning.look (meaning.eval S.scope.doc depth) depth) set) }
+    ensures ran { Ran S.scope
+        (outcomes_behind (meaning.look (meaning.eval S.scope.doc depth) depth) set)
+        (C.asked cells.old) (C.asked cells.new) result }
     ensures same { C.scope cells.new ≡ S.scope }
 {
     let set = look::<S, C, B>(alloc, set, depth, below, depth, cells)?;
@@ -123,8 +129,11 @@ fn outcomes_in<S: InScope, C: Cells, B: Below<C>>(
     requires deep { depth ≤ 128 }
     requires closed { IsClosed S.scope }
     requires same { C.scope cells.old ≡ S.scope }
-    requires can { CanRun S.scope (meaning.outcomes_in (meaning.look (meaning.eval S.scope.doc depth) depth) value.now) }
-    ensures ran { Ran S.scope (meaning.outcomes_in (meaning.look (meaning.eval S.scope.doc depth) depth) value.now) (C.asked cells.old) (C.asked cells.new) result }
+    requires can { CanRun S.scope
+        (meaning.outcomes_in (meaning.look (meaning.eval S.scope.doc depth) depth) value.now) }
+    ensures ran { Ran S.scope
+        (meaning.outcomes_in (meaning.look (meaning.eval S.scope.doc depth) depth) value.now)
+        (C.asked cells.old) (C.asked cells.new) result }
     ensures same { C.scope cells.new ≡ S.scope }
 {
     match entry_value(value) {
@@ -147,8 +156,13 @@ fn added<S: InScope, C: Cells, B: Below<C>>(
     requires deep { depth ≤ 128 }
     requires closed { IsClosed S.scope }
     requires same { C.scope cells.old ≡ S.scope }
-    requires can { CanRun S.scope (meaning.added_by (form_of of_outcomes) (meaning.look (meaning.eval S.scope.doc depth) depth) gives_elements value.now) }
-    ensures ran { Ran S.scope (meaning.added_by (form_of of_outcomes) (meaning.look (meaning.eval S.scope.doc depth) depth) gives_elements value.now) (C.asked cells.old) (C.asked cells.new) result }
+    requires can { CanRun S.scope
+        (meaning.added_by (form_of of_outcomes)
+        (meaning.look (meaning.eval S.scope.doc depth) depth) gives_elements value.now) }
+    ensures ran { Ran S.scope
+        (meaning.added_by (form_of of_outcomes)
+        (meaning.look (meaning.eval S.scope.doc depth) depth) gives_elements value.now)
+        (C.asked cells.old) (C.asked cells.new) result }
     ensures same { C.scope cells.new ≡ S.scope }
 {
     if !gives_elements {
@@ -174,8 +188,13 @@ fn added_by_all<S: InScope, C: Cells, B: Below<C>>(
     requires deep { depth ≤ 128 }
     requires closed { IsClosed S.scope }
     requires same { C.scope cells.old ≡ S.scope }
-    requires can { CanRun S.scope (meaning.added_by_all (form_of of_outcomes) (meaning.look (meaning.eval S.scope.doc depth) depth) flags.now values.now) }
-    ensures ran { Ran S.scope (meaning.added_by_all (form_of of_outcomes) (meaning.look (meaning.eval S.scope.doc depth) depth) flags.now values.now) (C.asked cells.old) (C.asked cells.new) result }
+    requires can { CanRun S.scope
+        (meaning.added_by_all (form_of of_outcomes)
+        (meaning.look (meaning.eval S.scope.doc depth) depth) flags.now values.now) }
+    ensures ran { Ran S.scope
+        (meaning.added_by_all (form_of of_outcomes)
+        (meaning.look (meaning.eval S.scope.doc depth) depth) flags.now values.now)
+        (C.asked cells.old) (C.asked cells.new) result }
     ensures same { C.scope cells.new ≡ S.scope }
 {
     let mut all = Items::new(alloc);
@@ -202,8 +221,13 @@ fn set_of_added<S: InScope, C: Cells, B: Below<C>>(
     requires deep { depth ≤ 128 }
     requires closed { IsClosed S.scope }
     requires same { C.scope cells.old ≡ S.scope }
-    requires can { CanRun S.scope (meaning.set_of_added (form_of of_outcomes) (meaning.look (meaning.eval S.scope.doc depth) depth) values) }
-    ensures ran { Ran S.scope (meaning.set_of_added (form_of of_outcomes) (meaning.look (meaning.eval S.scope.doc depth) depth) values) (C.asked cells.old) (C.asked cells.new) result }
+    requires can { CanRun S.scope
+        (meaning.set_of_added (form_of of_outcomes)
+        (meaning.look (meaning.eval S.scope.doc depth) depth) values) }
+    ensures ran { Ran S.scope
+        (meaning.set_of_added (form_of of_outcomes)
+        (meaning.look (meaning.eval S.scope.doc depth) depth) values) (C.asked cells.old)
+        (C.asked cells.new) result }
     ensures same { C.scope cells.new ≡ S.scope }
 {
     if of_outcomes {
@@ -228,8 +252,12 @@ pub fn set<S: InScope, C: Cells, B: Below<C>>(
     requires deep { depth ≤ 128 }
     requires closed { IsClosed S.scope }
     requires same { C.scope cells.old ≡ S.scope }
-    requires can { CanRun S.scope (set_made of_outcomes (meaning.look (meaning.eval S.scope.doc depth) depth) flags.now values.now) }
-    ensures ran { Ran S.scope (set_made of_outcomes (meaning.look (meaning.eval S.scope.doc depth) depth) flags.now values.now) (C.asked cells.old) (C.asked cells.new) result }
+    requires can { CanRun S.scope
+        (set_made of_outcomes (meaning.look (meaning.eval S.scope.doc depth) depth) flags.now
+        values.now) }
+    ensures ran { Ran S.scope
+        (set_made of_outcomes (meaning.look (meaning.eval S.scope.doc depth) depth) flags.now
+        values.now) (C.asked cells.old) (C.asked cells.new) result }
     ensures same { C.scope cells.new ≡ S.scope }
 {
     let added = added_by_all::<S, C, B>(alloc, of_outcomes, flags, values, below, depth, cells)?;

@@ -40,8 +40,11 @@ pub fn only_given<S: InScope, C: Cells, B: Below<C>>(
     requires deep { depth ≤ 128 }
     requires same { C.scope cells.old ≡ S.scope }
     requires there { IsSome (meaning.node_in S.scope.doc inst slot) }
-    requires can { CanRun S.scope (only_over S.scope.doc (meaning.eval S.scope.doc depth) inst slot place.now) }
-    ensures ran { Ran S.scope (only_over S.scope.doc (meaning.eval S.scope.doc depth) inst slot place.now) (C.asked cells.old) (C.asked cells.new) result }
+    requires can { CanRun S.scope
+        (only_over S.scope.doc (meaning.eval S.scope.doc depth) inst slot place.now) }
+    ensures ran { Ran S.scope
+        (only_over S.scope.doc (meaning.eval S.scope.doc depth) inst slot place.now)
+        (C.asked cells.old) (C.asked cells.new) result }
     ensures same { C.scope cells.new ≡ S.scope }
 {
     let values = given::<S, C, B>(alloc, plan, world, inst, slot, place, below, depth, cells)?;
@@ -66,7 +69,8 @@ fn entry_value<S: InScope, C: Cells, B: Below<C>>(
     requires same { C.scope cells.old ≡ S.scope }
     requires body { HasBody S.scope.doc inst slot body_of.EntryOf }
     requires can { CanRun S.scope (meaning.eval S.scope.doc (suc depth) inst slot place.now) }
-    ensures ran { Ran S.scope (meaning.eval S.scope.doc (suc depth) inst slot place.now) (C.asked cells.old) (C.asked cells.new) result }
+    ensures ran { Ran S.scope (meaning.eval S.scope.doc (suc depth) inst slot place.now)
+        (C.asked cells.old) (C.asked cells.new) result }
     ensures same { C.scope cells.new ≡ S.scope }
 {
     only_given::<S, C, B>(alloc, plan, world, inst, slot, place, below, depth, cells)
@@ -90,7 +94,8 @@ fn optional_value<S: InScope, C: Cells, B: Below<C>>(
     requires same { C.scope cells.old ≡ S.scope }
     requires body { (present : Bool) × HasBody S.scope.doc inst slot (body_of.Opt present) }
     requires can { CanRun S.scope (meaning.eval S.scope.doc (suc depth) inst slot place.now) }
-    ensures ran { Ran S.scope (meaning.eval S.scope.doc (suc depth) inst slot place.now) (C.asked cells.old) (C.asked cells.new) result }
+    ensures ran { Ran S.scope (meaning.eval S.scope.doc (suc depth) inst slot place.now)
+        (C.asked cells.old) (C.asked cells.new) result }
     ensures same { C.scope cells.new ≡ S.scope }
 {
     let values = given::<S, C, B>(alloc, plan, world, inst, slot, place, below, depth, cells)?;
@@ -116,7 +121,8 @@ fn map_value<S: InScope, C: Cells, B: Below<C>>(
     requires same { C.scope cells.old ≡ S.scope }
     requires body { HasBody S.scope.doc inst slot (body_of.Map keys.now) }
     requires can { CanRun S.scope (meaning.eval S.scope.doc (suc depth) inst slot place.now) }
-    ensures ran { Ran S.scope (meaning.eval S.scope.doc (suc depth) inst slot place.now) (C.asked cells.old) (C.asked cells.new) result }
+    ensures ran { Ran S.scope (meaning.eval S.scope.doc (suc depth) inst slot place.now)
+        (C.asked cells.old) (C.asked cells.new) result }
     ensures same { C.scope cells.new ≡ S.scope }
 {
     let values = given::<S, C, B>(alloc, plan, world, inst, slot, place, below, depth, cells)?;
@@ -143,7 +149,8 @@ fn set_value<S: InScope, C: Cells, B: Below<C>>(
     requires same { C.scope cells.old ≡ S.scope }
     requires body { HasSet S.scope.doc inst slot of_outcomes flags.now }
     requires can { CanRun S.scope (meaning.eval S.scope.doc (suc depth) inst slot place.now) }
-    ensures ran { Ran S.scope (meaning.eval S.scope.doc (suc depth) inst slot place.now) (C.asked cells.old) (C.asked cells.new) result }
+    ensures ran { Ran S.scope (meaning.eval S.scope.doc (suc depth) inst slot place.now)
+        (C.asked cells.old) (C.asked cells.new) result }
     ensures same { C.scope cells.new ≡ S.scope }
 {
     let values = given::<S, C, B>(alloc, plan, world, inst, slot, place, below, depth, cells)?;
@@ -196,8 +203,11 @@ fn run_end<S: InScope, C: Cells, B: Below<C>>(
     requires deep { depth ≤ 127 }
     requires same { C.scope cells.old ≡ S.scope }
     requires body { HasBody S.scope.doc inst slot (body_of.Run body.now) }
-    requires can { CanRun S.scope (end_over S.scope.doc (meaning.eval S.scope.doc depth) depth inst slot place.now) }
-    ensures ran { Ran S.scope (end_over S.scope.doc (meaning.eval S.scope.doc depth) depth inst slot place.now) (C.asked cells.old) (C.asked cells.new) (ends result) }
+    requires can { CanRun S.scope
+        (end_over S.scope.doc (meaning.eval S.scope.doc depth) depth inst slot place.now) }
+    ensures ran { Ran S.scope
+        (end_over S.scope.doc (meaning.eval S.scope.doc depth) depth inst slot place.now)
+        (C.asked cells.old) (C.asked cells.new) (ends result) }
     ensures same { C.scope cells.new ≡ S.scope }
 {
     let values = given::<S, C, B>(alloc, plan, world, inst, slot, place, below, depth, cells)?;
@@ -233,8 +243,11 @@ fn body_end<S: InScope, C: Cells, B: Below<C>>(
     requires deep { depth ≤ 127 }
     requires same { C.scope cells.old ≡ S.scope }
     requires slot { IsSlotIn S.scope.doc inst slot found.now }
-    requires can { CanRun S.scope (end_over S.scope.doc (meaning.eval S.scope.doc depth) depth inst slot place.now) }
-    ensures ran { Ran S.scope (end_over S.scope.doc (meaning.eval S.scope.doc depth) depth inst slot place.now) (C.asked cells.old) (C.asked cells.new) (ends result) }
+    requires can { CanRun S.scope
+        (end_over S.scope.doc (meaning.eval S.scope.doc depth) depth inst slot place.now) }
+    ensures ran { Ran S.scope
+        (end_over S.scope.doc (meaning.eval S.scope.doc depth) depth inst slot place.now)
+        (C.asked cells.old) (C.asked cells.new) (ends result) }
     ensures same { C.scope cells.new ≡ S.scope }
 {
     match &found.body {
@@ -292,8 +305,11 @@ fn slot_end<S: InScope, C: Cells, B: Below<C>>(
     requires below { IsBelow C.scope C.asked B.can_eval B.eval_gives below.now S.scope depth }
     requires deep { depth ≤ 127 }
     requires same { C.scope cells.old ≡ S.scope }
-    requires can { CanRun S.scope (end_over S.scope.doc (meaning.eval S.scope.doc depth) depth inst slot place.now) }
-    ensures ran { Ran S.scope (end_over S.scope.doc (meaning.eval S.scope.doc depth) depth inst slot place.now) (C.asked cells.old) (C.asked cells.new) (ends result) }
+    requires can { CanRun S.scope
+        (end_over S.scope.doc (meaning.eval S.scope.doc depth) depth inst slot place.now) }
+    ensures ran { Ran S.scope
+        (end_over S.scope.doc (meaning.eval S.scope.doc depth) depth inst slot place.now)
+        (C.asked cells.old) (C.asked cells.new) (ends result) }
     ensures same { C.scope cells.new ≡ S.scope }
 {
     match slot_in(plan, world, inst, slot) {
@@ -317,7 +333,8 @@ fn value_at<S: InScope, C: Cells, B: Below<C>>(
     requires closed { IsClosed S.scope }
     requires same { C.scope cells.old ≡ S.scope }
     requires can { CanRun S.scope (meaning.of_end (meaning.eval S.scope.doc depth) (as_end end)) }
-    ensures ran { Ran S.scope (meaning.of_end (meaning.eval S.scope.doc depth) (as_end end)) (C.asked cells.old) (C.asked cells.new) result }
+    ensures ran { Ran S.scope (meaning.of_end (meaning.eval S.scope.doc depth) (as_end end))
+        (C.asked cells.old) (C.asked cells.new) result }
     ensures same { C.scope cells.new ≡ S.scope }
 {
     match end {
@@ -345,7 +362,8 @@ fn value_of<S: InScope, C: Cells, B: Below<C>>(
     requires deep { depth ≤ 127 }
     requires same { C.scope cells.old ≡ S.scope }
     requires can { CanRun S.scope (meaning.eval S.scope.doc (suc depth) inst slot place.now) }
-    ensures ran { Ran S.scope (meaning.eval S.scope.doc (suc depth) inst slot place.now) (C.asked cells.old) (C.asked cells.new) result }
+    ensures ran { Ran S.scope (meaning.eval S.scope.doc (suc depth) inst slot place.now)
+        (C.asked cells.old) (C.asked cells.new) result }
     ensures same { C.scope cells.new ≡ S.scope }
 {
     let end = slot_end::<S, C, B>(alloc, plan, world, inst, slot, place, below, depth, cells)?;
@@ -367,7 +385,8 @@ pub fn eval<S: InScope, C: Cells>(
     requires deep { depth ≤ 128 }
     requires same { C.scope cells.old ≡ S.scope }
     requires can { CanRun S.scope (meaning.eval S.scope.doc depth inst slot place.now) }
-    ensures ran { Ran S.scope (meaning.eval S.scope.doc depth inst slot place.now) (C.asked cells.old) (C.asked cells.new) result }
+    ensures ran { Ran S.scope (meaning.eval S.scope.doc depth inst slot place.now)
+        (C.asked cells.old) (C.asked cells.new) result }
     ensures same { C.scope cells.new ≡ S.scope }
 {
     let deeper = |i: u32, k: u32, q: Place, c: &mut C| -> Result<Value, Stop>
@@ -376,7 +395,8 @@ pub fn eval<S: InScope, C: Cells>(
         requires some { 1 ≤ depth }
         requires same { C.scope c.old ≡ S.scope }
         requires can { CanRun S.scope (meaning.eval S.scope.doc (depth - 1) i k q) }
-        ensures ran { Ran S.scope (meaning.eval S.scope.doc (depth - 1) i k q) (C.asked c.old) (C.asked c.new) result }
+        ensures ran { Ran S.scope (meaning.eval S.scope.doc (depth - 1) i k q) (C.asked c.old)
+            (C.asked c.new) result }
         ensures same { C.scope c.new ≡ S.scope }
     { eval::<S, C>(alloc, plan, world, i, k, &q, depth - 1, c) };
     let below = Deeper { run: deeper };
@@ -406,14 +426,16 @@ fn whole_end<S: InScope, C: Cells>(
     requires fit { IsFit S.scope plan.now world.now }
     requires same { C.scope cells.old ≡ S.scope }
     requires can { CanRun S.scope (end_of_slot S.scope.doc inst slot place.now) }
-    ensures ran { Ran S.scope (end_of_slot S.scope.doc inst slot place.now) (C.asked cells.old) (C.asked cells.new) (ends result) }
+    ensures ran { Ran S.scope (end_of_slot S.scope.doc inst slot place.now) (C.asked cells.old)
+        (C.asked cells.new) (ends result) }
     ensures same { C.scope cells.new ≡ S.scope }
 {
     let deeper = |i: u32, k: u32, q: Place, c: &mut C| -> Result<Value, Stop>
         requires fit { IsFit S.scope plan.now world.now }
         requires same { C.scope c.old ≡ S.scope }
         requires can { CanRun S.scope (meaning.eval S.scope.doc 127 i k q) }
-        ensures ran { Ran S.scope (meaning.eval S.scope.doc 127 i k q) (C.asked c.old) (C.asked c.new) result }
+        ensures ran { Ran S.scope (meaning.eval S.scope.doc 127 i k q) (C.asked c.old)
+            (C.asked c.new) result }
         ensures same { C.scope c.new ≡ S.scope }
     { eval::<S, C>(alloc, plan, world, i, k, &q, 127, c) };
     let below = Deeper { run: deeper };
@@ -444,9 +466,13 @@ pub fn eval_slot<C: Cells>(
     cells: &mut C,
 ) -> Result<Outcome, NoMemory>
     requires fit { IsFit (C.scope cells.old) plan.now world.now }
-    requires can { CanRun (C.scope cells.old) (end_of_slot (C.scope cells.old).doc inst slot place.now) }
-    ensures exact { IfOk result (λ o. outcome_of (end_of_slot (C.scope cells.old).doc inst slot place.now) ≡ Some o) }
-    ensures asked { Asks (C.scope cells.old).doc (runs.asks_of (end_of_slot (C.scope cells.old).doc inst slot place.now)) (C.asked cells.old) (C.asked cells.new) result }
+    requires can { CanRun (C.scope cells.old)
+        (end_of_slot (C.scope cells.old).doc inst slot place.now) }
+    ensures exact { IfOk result
+        (λ o. outcome_of (end_of_slot (C.scope cells.old).doc inst slot place.now) ≡ Some o) }
+    ensures asked { Asks (C.scope cells.old).doc
+        (runs.asks_of (end_of_slot (C.scope cells.old).doc inst slot place.now)) (C.asked cells.old)
+        (C.asked cells.new) result }
     ensures same { C.scope cells.new ≡ C.scope cells.old }
 {
     to_outcome(whole_end::<Brand, C>(alloc, plan, world, inst, slot, place, cells))

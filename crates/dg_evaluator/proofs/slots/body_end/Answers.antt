@@ -1,4 +1,4 @@
-use Rattle.std.proofs.Common.{◌≡◌, sym, ap, ◌∙◌}
+use Rattle.std.proofs.Common.{sym, ap, ◌∙◌}
 use Rattle.dg_slots.specs.declared.plan.Body.TheVariants as body
 use Rattle.dg_requests.specs.Results.{ends}
 use Rattle.dg_evaluator.proofs.EndLemmas.{has_body, has_set, set_ends_so, map_ends_so, optional_ends_so, argument_ends_so, entry_ends_so, argument_ran, end_can, end_ran, fits_so}

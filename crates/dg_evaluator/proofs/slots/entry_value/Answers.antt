@@ -1,5 +1,4 @@
 use Rattle.std.proofs.Common.{is_some, sym, ap}
-use Rattle.dg_eval.specs.Meaning.{eval}
 use Rattle.dg_requests.proofs.RanLemmas.{can_as, ran_as}
 use Rattle.dg_evaluator.proofs.SlotLemmas.{entry_same}
 use Rattle.dg_evaluator.proofs.slots.entry_value.Goals as goal

@@ -1,6 +1,5 @@
-use Rattle.std.proofs.Common.{◌≡◌, ap}
+use Rattle.std.proofs.Common.{◌≡◌}
 use Rattle.std.proofs.lemmas.Result.{err_from_is_err_and}
-use Rattle.dg_eval.specs.Meaning.{eval}
 use Rattle.dg_evaluator.proofs.EndLemmas.{end_first_can, at_end_can, at_end_ran, at_end_stops}
 use Rattle.dg_evaluator.proofs.slots.value_of.Goals as goal
 
