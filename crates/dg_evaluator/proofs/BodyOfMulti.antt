@@ -116,7 +116,8 @@ pub record SetEnds (doc : Doc) (below : Eval) (depth i k : ℕ) (n : Node) (q : 
   pub modes : (x : Input) → Contains (inputs_of doc n) x → x.mode ≡ mode_of_inner form
   pub is : eval_node doc below depth i k n q
       ≡ and_then (all (given doc below i n q)) (λ vs.
-      and_then (added_by_all form (look below depth) flags vs) (set_of_added form (look below depth)))
+      and_then (added_by_all form (look below depth) flags vs)
+      (set_of_added form (look below depth)))
   pub ends : end_of_node doc below depth i k n q
       ≡ and_then (eval_node doc below depth i k n q) (λ v. gives (value_end v))
 

@@ -250,7 +250,8 @@ entry_numbered : (doc : Doc) (i class : ℕ) → class_of_inst doc i ≡ Some cl
     → EachGiven (λ e. number_of (nodes doc) (node_of class (node.EntryOf e))) (entries_of doc class)
 entry_numbered doc i class is x c =
     let at : slice_get (entries_of doc class) c.0 ≡ Some x =
-    slice_get_read (entries_of doc class) (length (entries_of doc class)) c.0 x refl c.1 (sym c.2) in
+    slice_get_read (entries_of doc class) (length (entries_of doc class)) c.0 x refl c.1 (sym c.2)
+    in
     let n : Node = node_of class (node.EntryOf x) in
     let asks : entry_node doc (record { inst = i; entry = c.0; steps = [] }) ≡ Some n =
     ap (option_and_then (λ (k : ℕ). option_map (λ e. node_of k (node.EntryOf e))
@@ -362,7 +363,8 @@ not_requested doc plan world of a q is =
   where
     by_node : (o : Option Node) → entry_node doc a ≡ o
         → option_and_then (number_of (nodes doc)) o ≡ None
-        → option_map_or (λ (n : Node). first_run (given doc (eval doc enough) a.inst n q)) o mistyped
+        → option_map_or (λ (n : Node). first_run (given doc (eval doc enough) a.inst n q)) o
+        mistyped
         ≡ mistyped
     by_node None e none = refl
     by_node (Some n) e none =

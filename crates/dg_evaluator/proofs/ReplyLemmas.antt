@@ -33,7 +33,8 @@ reply_as run (Err (stop.Failed f)) g = reply_told run (Err f) _ g refl
 reply_as run (Err stop.NoMemory) g = tt
 
 pub reply_exact : (doc : Doc) (number : ℕ) (a : Ask) (came : Result Reached Stop)
-    → (result : Result Reply NoMemory) → result ≡ reply_in came → Gave (run_of_ask doc number a) came
+    → (result : Result Reply NoMemory) → result ≡ reply_in came
+    → Gave (run_of_ask doc number a) came
     → IfOk result (λ r. answer_to doc number a ≡ Some r)
 unfolding answer_to
 reply_exact doc number a came result e g =
@@ -52,7 +53,8 @@ pub reply_asked : (doc : Doc) (asks : List Asked) (a b : Option (List Asked))
     → (came : Result Reached Stop) (result : Result Reply NoMemory) → result ≡ reply_in came
     → AskedFor doc asks a b came → Asks doc asks a b result
 reply_asked doc asks a b came result e h =
-    subst (λ (u : Result Reply NoMemory). Asks doc asks a b u) (sym e) (asked_as doc asks a b came h)
+    subst (λ (u : Result Reply NoMemory). Asks doc asks a b u) (sym e)
+    (asked_as doc asks a b came h)
 
 -- ---- slots
 

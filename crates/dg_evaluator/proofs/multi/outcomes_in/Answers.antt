@@ -6,7 +6,8 @@ pub outcomes_behind-requires-clause-can : goal.outcomes_behind-requires-clause-c
 outcomes_behind-requires-clause-can g c =
     let s = g.S.InScope.scope in
     outcome_can s (look (eval s.doc c.args.depth) c.args.depth) c.args.value.now
-    c.in-Some.set.now c.in_ok-copy-in-Some.field-0 c.in-Some.ensures.exact c.in_ok-copy-in-Some.ensures.exact
+    c.in-Some.set.now c.in_ok-copy-in-Some.field-0 c.in-Some.ensures.exact
+    c.in_ok-copy-in-Some.ensures.exact
     c.requires.can
 
 pub returns-in_ok-alone-in-None-clause-ran : goal.returns-in_ok-alone-in-None-clause-ran
