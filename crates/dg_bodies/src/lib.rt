@@ -4,4 +4,5 @@
 mod operations;
 mod parts;
 
+pub use operations::field;
 pub use parts::{elements, entry_value, entry_with, inside, production, value_if};

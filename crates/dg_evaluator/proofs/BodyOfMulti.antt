@@ -1,17 +1,14 @@
 -- What the bodies of sets, maps, optionals, bound arguments and entries say of their nodes.
-use Rattle.std.proofs.Common.{◌≡◌, ◌⊎◌, inl, inr, ℕ, Bool, true, false, not, List, [], ◌∷◌, map, filter_map, Contains, Option, Some, None, option_map, refl, sym, ap, subst, ◌∙◌, arith}
+use Rattle.std.proofs.Common.{◌≡◌, ◌⊎◌, inl, inr, ℕ, Bool, false, not, List, [], map, Contains, Option, Some, None, refl, sym, ap, ◌∙◌, arith}
 use Rattle.std.specs.Option.{option_map_or}
-use Rattle.std.proofs.lemmas.Option.{none-some, same_Some}
 use Rattle.dg_types.specs.declared.key.Core.{Core}
 use Rattle.dg_types.specs.declared.key.Core.TheVariants as core
 use Rattle.dg_types.specs.declared.key.Inner.{Inner}
 use Rattle.dg_types.specs.declared.key.Key.{Key}
 use Rattle.dg_types.specs.declared.key.MapKeyVal.{MapKeyVal}
-use Rattle.dg_types.specs.declared.key.Mode.{Mode}
 use Rattle.dg_decl.specs.declared.document.Doc.{Doc}
 use Rattle.dg_decl.specs.declared.binding.BindRef.{BindRef}
 use Rattle.dg_decl.specs.declared.binding.BindRef.TheVariants as binding
-use Rattle.dg_decl.specs.declared.binding.Owned.{Owned}
 use Rattle.dg_decl.specs.declared.graph.Node.{Node}
 use Rattle.dg_decl.specs.declared.graph.NodeKind.{NodeKind}
 use Rattle.dg_decl.specs.declared.graph.NodeKind.TheVariants as node
@@ -27,9 +24,8 @@ use Rattle.dg_slots.specs.declared.plan.Body.TheVariants as body
 use Rattle.dg_slots.specs.declared.plan.Input.{Input}
 use Rattle.dg_slots.specs.Plans.{one_param, gives_elements, body_of_item, body_of_binding, body_of_multi, is_empty, body_of_node, input_of, inputs_of}
 use Rattle.dg_value.specs.declared.place.Place.{Place}
-use Rattle.dg_value.specs.declared.value.Value.{Value}
 use Rattle.dg_value.specs.declared.value.Value.TheVariants as value
-use Rattle.dg_eval.specs.Runs.{Run, gives, and_then, all}
+use Rattle.dg_eval.specs.Runs.{gives, and_then, all}
 use Rattle.dg_eval.specs.World.{bound_value}
 use Rattle.dg_eval.specs.Operations.{or_mistyped, only_of}
 use Rattle.dg_eval.specs.Bodies.{value_end}
@@ -120,7 +116,8 @@ pub record SetEnds (doc : Doc) (below : Eval) (depth i k : ℕ) (n : Node) (q : 
   pub modes : (x : Input) → Contains (inputs_of doc n) x → x.mode ≡ mode_of_inner form
   pub is : eval_node doc below depth i k n q
       ≡ and_then (all (given doc below i n q)) (λ vs.
-      and_then (added_by_all form (look below depth) flags vs) (set_of_added form (look below depth)))
+      and_then (added_by_all form (look below depth) flags vs)
+      (set_of_added form (look below depth)))
   pub ends : end_of_node doc below depth i k n q
       ≡ and_then (eval_node doc below depth i k n q) (λ v. gives (value_end v))
 

@@ -1,9 +1,8 @@
 -- In an accepted document the body of a slot says where its node ends.
-use Rattle.std.proofs.Common.{◌≡◌, ℕ, zero, suc, ◌+◌, Bool, true, false, not, List, [], ◌∷◌, ◌++◌, length, map, filter, filter_map, slice_get, Contains, Option, Some, None, Result, Ok, Err, option_map, option_and_then, option_to_list, unwrap_or, refl, sym, ap, subst, ◌∙◌, append_assoc, arith}
+use Rattle.std.proofs.Common.{◌≡◌, ℕ, suc, ◌+◌, Bool, true, false, not, List, [], ◌∷◌, ◌++◌, length, map, filter, filter_map, slice_get, Option, Some, None, Ok, Err, option_map, option_to_list, unwrap_or, refl, sym, ap, subst, ◌∙◌, append_assoc, arith}
 use Rattle.std.specs.List.{cons_option, enumerate_from, range_with_len}
 use Rattle.std.specs.Option.{option_map_or}
 use Rattle.std.proofs.lemmas.Bool.{false≢true}
-use Rattle.std.proofs.lemmas.Option.{none-some, same_Some}
 use Rattle.std.proofs.lemmas.List.{length-map, append-nil}
 use Rattle.std.proofs.lemmas.List.FromFn.{length-enumerate_from}
 use Rattle.dg_types.specs.declared.key.Core.{Core}
@@ -12,7 +11,6 @@ use Rattle.dg_lex.specs.Bytes.{Bytes}
 use Rattle.dg_types.specs.declared.key.Key.{Key}
 use Rattle.dg_types.specs.Requests.{is_plain_use}
 use Rattle.dg_decl.specs.declared.document.Doc.{Doc}
-use Rattle.dg_decl.specs.declared.binding.BindRef.{BindRef}
 use Rattle.dg_decl.specs.declared.binding.BindRef.TheVariants as binding
 use Rattle.dg_decl.specs.declared.graph.Node.{Node}
 use Rattle.dg_decl.specs.declared.graph.NodeKind.{NodeKind}
@@ -43,15 +41,13 @@ use Rattle.dg_slots.specs.Numbered.{number_of_class_item}
 use Rattle.dg_slots.specs.Plans.{one_param, construction, body_of_item, body_of_binding, body_of_multi, is_empty, body_of_node}
 use Rattle.dg_value.specs.declared.place.Place.{Place}
 use Rattle.dg_value.specs.declared.place.PlaceStep.TheVariants as step
-use Rattle.dg_value.specs.declared.value.Failure.{Failure}
 use Rattle.dg_value.specs.declared.value.Value.{Value}
 use Rattle.dg_value.specs.declared.value.Value.TheVariants as value
 use Rattle.dg_value.specs.Places.{then_step}
 use Rattle.dg_eval.specs.Runs.{Asked, Run, gives, before, and_then, both, all, in_order, mistyped}
-use Rattle.dg_eval.specs.World.{bound_value}
 use Rattle.dg_eval.specs.Operations.{or_mistyped, only_of}
 use Rattle.dg_eval.specs.Bodies.{End, value_end, Around, Part, runs_of, cond_at, expr_at, expr_part, cond_part, tree_at, tree_part}
-use Rattle.dg_eval.specs.Meaning.{node_at, Eval, given_one, given, param_in, around, end_with, object_of, member_end, binding_at, eval_node, optional_of}
+use Rattle.dg_eval.specs.Meaning.{node_at, Eval, given_one, given, param_in, around, end_with, object_of, member_end}
 use Rattle.dg_eval.proofs.AcceptedDepth.{stages_of_accepted}
 use Rattle.dg_eval.proofs.CallLemmas.{HasRequest, plain_asks, params_ask, asked_for, all_asked, item_fits}
 use Rattle.dg_eval.proofs.RunResults.{Each}
@@ -104,7 +100,7 @@ then_same (Some (Ok vs, asked)) n f g is h = ap (before asked) (h vs is)
 then_same (Some (Err e, asked)) n f g is h = refl
 
 -- what goes on with what the dependencies of a node are given matters for as many values
-given_same : {B : Type 0} (doc : Doc) (below : Eval) (i : ℕ) (n : Node) (q : Place)
+pub given_same : {B : Type 0} (doc : Doc) (below : Eval) (i : ℕ) (n : Node) (q : Place)
     → (f g : List Value → Run B)
     → ((vs : List Value) → length vs ≡ length (deps doc n) → f vs ≡ g vs)
     → and_then (all (given doc below i n q)) f ≡ and_then (all (given doc below i n q)) g
@@ -117,12 +113,12 @@ given_same doc below i n q f g h =
 
 -- ---- the body that gives its one parameter
 
-tree_is : (t : NTree) (z : NTree-F NTree) → roll-NTree z ≡ t
+pub tree_is : (t : NTree) (z : NTree-F NTree) → roll-NTree z ≡ t
     → tree_part t ≡ tree_at (map-NTree NTree (Part End) tree_part z)
 unfolding tree_part
 tree_is t z is = sym (ap tree_part is) ∙ fold-roll-NTree (Part End) tree_at z
 
-expr_is : (e : NExpr) (z : NExpr-F NCond NExpr) → roll-NExpr z ≡ e
+pub expr_is : (e : NExpr) (z : NExpr-F NCond NExpr) → roll-NExpr z ≡ e
     → expr_part e
     ≡ expr_at (map-NExpr NCond NExpr (Part Bool) (Part Value) cond_part expr_part z)
 unfolding cond_part expr_part
@@ -134,7 +130,7 @@ leaf_run : (e : NExpr) (s : Around)
 leaf_run e s =
     ap (λ (p : Part End). p.run s 0 0) (tree_is (ntree.Leaf e) (NTree-F.Leaf e) (ntree.rolls-Leaf e))
 
-param_part : (p : ℕ)
+pub param_part : (p : ℕ)
     → expr_part (nexpr.Param p)
     ≡ expr_at (map-NExpr NCond NExpr (Part Bool) (Part Value) cond_part expr_part (NExpr-F.Param p))
 param_part p = expr_is (nexpr.Param p) (NExpr-F.Param p) (nexpr.rolls-Param p)
@@ -146,7 +142,7 @@ one_param_run s =
     leaf_run (nexpr.Param 0) s
     ∙ ap (λ (p : Part Value). and_then (p.run s 0 0) (λ v. gives (value_end v))) (param_part 0)
 
-abbrev AtMostOne : {A : Type 0} → List A → Type 0
+abbrev pub AtMostOne : {A : Type 0} → List A → Type 0
 AtMostOne [] = Unit {0}
 AtMostOne (x ∷ []) = Unit {0}
 AtMostOne (x ∷ y ∷ xs) = ⊥
@@ -255,15 +251,15 @@ constructs doc below depth i k c class n q e =
 
 -- ---- which bodies are run
 
-abbrev is_run : Body → Bool
+abbrev pub is_run : Body → Bool
 is_run (body.Run t) = true
 is_run other = false
 
-abbrev run_tree : Body → NTree
+abbrev pub run_tree : Body → NTree
 run_tree (body.Run t) = t
 run_tree other = ntree.Leaf (nexpr.Param 0)
 
-not_run : {A : Type 0} (b : Body) (t : NTree) → is_run b ≡ false → b ≡ body.Run t → A
+pub not_run : {A : Type 0} (b : Body) (t : NTree) → is_run b ≡ false → b ≡ body.Run t → A
 not_run b t is e = absurd (false≢true (sym is ∙ ap is_run e))
 
 -- what goes on with the parameters of a node by a tree
@@ -359,7 +355,7 @@ class_ends doc accepted below depth i k class c number q t other at is e h = abs
 
 -- ---- exposed entries
 
-option_most : {A : Type 0} (o : Option A) → AtMostOne (option_to_list o)
+pub option_most : {A : Type 0} (o : Option A) → AtMostOne (option_to_list o)
 option_most None = tt
 option_most (Some x) = tt
 
@@ -387,7 +383,7 @@ exposed_ends doc below depth i k class dep entry q t h =
 
 -- ---- bodies that are run
 
-multi_not_run : (doc : Doc) (class : ℕ) (key : Key) (c : Core)
+pub multi_not_run : (doc : Doc) (class : ℕ) (key : Key) (c : Core)
     → is_run (body_of_multi doc class key c) ≡ false
 multi_not_run doc class key (core.Map k b form) = refl
 multi_not_run doc class key other = refl

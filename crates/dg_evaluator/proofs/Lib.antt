@@ -1,2 +1,9 @@
 pub mod BodyOfSlot
 pub mod BodyOfMulti
+pub mod RestLemmas
+pub mod SlotLemmas
+pub mod SetLemmas
+pub mod EndLemmas
+pub mod PathLemmas
+pub mod CalledLemmas
+pub mod ReplyLemmas

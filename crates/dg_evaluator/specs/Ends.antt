@@ -1,5 +1,5 @@
 -- Where the evaluation of a slot ends: in a value, or in the cell of a producer.
-use Rattle.std.specs.Prelude.{ℕ, Option, Result, Ok, Err, option_map}
+use Rattle.std.specs.Prelude.{◌≡◌, ℕ, Option, Result, Ok, Err, option_map}
 use Rattle.std.specs.Option.{option_map_or}
 use Rattle.dg_decl.specs.declared.document.Doc.{Doc}
 use Rattle.dg_decl.specs.declared.binding.BindRef.TheVariants as binding
@@ -9,9 +9,11 @@ use Rattle.dg_decl.specs.declared.graph.NodeKind.TheVariants as node
 use Rattle.dg_value.specs.declared.place.Place.{Place}
 use Rattle.dg_value.specs.declared.value.Failure.{Failure}
 use Rattle.dg_value.specs.declared.value.Kept.TheVariants as kept
-use Rattle.dg_eval.specs.Runs.{Run, gives, and_then, mistyped}
+use Rattle.dg_value.specs.declared.value.Value.{Value}
+use Rattle.dg_eval.specs.Runs.{Run, gives, and_then, all, mistyped}
+use Rattle.dg_eval.specs.Operations.{or_mistyped, only_of}
 use Rattle.dg_eval.specs.Bodies.{End, value_end, producer_end}
-use Rattle.dg_eval.specs.Meaning.{Eval, node_in, member_end, eval_node, eval}
+use Rattle.dg_eval.specs.Meaning.{Eval, node_in, member_end, given, eval_node, eval, of_end}
 use Rattle.dg_evaluator.specs.declared.outcome.Outcome.{Outcome}
 use Rattle.dg_evaluator.specs.declared.outcome.Outcome.TheVariants as outcome
 
@@ -23,11 +25,27 @@ end_of_node doc below depth i k n q = of_kind n.kind
     of_kind (node.Bound (binding.Member m)) = member_end doc below depth i k n q m
     of_kind other = and_then (eval_node doc below depth i k n q) (λ v. gives (value_end v))
 
+-- where a slot ends in an instance at a place, over the evaluation at the depth below
+abbrev pub end_over : Doc → Eval → ℕ → ℕ → ℕ → Place → Run End
+end_over doc below depth i k q =
+    option_map_or (λ n. end_of_node doc below depth i k n q) (node_in doc i k) mistyped
+
+-- what the one request of a slot is given, over the evaluation at the depth below
+abbrev pub only_over : Doc → Eval → ℕ → ℕ → Place → Run Value
+only_over doc below i k q =
+    option_map_or (λ n. and_then (all (given doc below i n q)) (λ vs. or_mistyped (only_of vs)))
+    (node_in doc i k) mistyped
+
 -- where a slot ends in an instance at a place, at a depth that is enough: `eval` is this, and then
 -- the content of the cell of the producer
 unfoldable pub end_of_slot : Doc → ℕ → ℕ → Place → Run End
-end_of_slot doc i k q =
-    option_map_or (λ n. end_of_node doc (eval doc 127) 127 i k n q) (node_in doc i k) mistyped
+end_of_slot doc i k q = end_over doc (eval doc 127) 127 i k q
+
+-- Evaluation ends, and gives the value at the end; the content of a producer's cell is asked for.
+abbrev pub EvaluationEnds : Type 0
+EvaluationEnds =
+    (doc : Doc) (i k : ℕ) (q : Place)
+    → eval doc 128 i k q ≡ and_then (end_of_slot doc i k q) (of_end (eval doc 127))
 
 -- an end, or a failure, as what becomes of a slot
 abbrev pub as_outcome : Result End Failure → Outcome

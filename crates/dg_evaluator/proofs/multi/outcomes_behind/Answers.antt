@@ -1,0 +1,11 @@
+use Rattle.dg_eval.specs.Meaning.{look, eval}
+use Rattle.dg_evaluator.proofs.RestLemmas.{then_plain}
+use Rattle.dg_evaluator.proofs.SetLemmas.{quiet_outcomes}
+use Rattle.dg_evaluator.proofs.multi.outcomes_behind.Goals as goal
+
+pub returns-clause-ran : goal.returns-clause-ran
+returns-clause-ran g c =
+    let s = g.S.InScope.scope in
+    then_plain s (look (eval s.doc c.args.depth) c.args.depth c.args.set) _ c.in_ok-set.set _ _
+    c.outcomes_of.result c.requires.can c.in_ok-set.ensures.ran (quiet_outcomes c.in_ok-set.set)
+    c.outcomes_of.ensures.exact

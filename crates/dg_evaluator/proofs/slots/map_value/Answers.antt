@@ -1,0 +1,33 @@
+use Rattle.std.proofs.Common.{◌≡◌, refl, is_some, ap}
+use Rattle.std.proofs.lemmas.Result.{err_from_is_err_and}
+use Rattle.dg_eval.specs.Meaning.{eval}
+use Rattle.dg_evaluator.proofs.SlotLemmas.{given_can, given_plain_as, given_stops, map_by}
+use Rattle.dg_evaluator.proofs.slots.map_value.Goals as goal
+
+pub given-requires-clause-there : goal.given-requires-clause-there
+given-requires-clause-there g c = ap is_some c.requires.body.is_node
+
+pub given-requires-clause-can : goal.given-requires-clause-can
+given-requires-clause-can g c =
+    let s = g.S.InScope.scope in
+    given_can s (eval s.doc c.args.depth) c.args.inst c.args.slot c.args.place.now _ _
+    (map_by s.doc c.args.depth c.args.inst c.args.slot c.args.place.now c.args.keys.now
+    c.requires.body) c.requires.can
+
+pub returns-in_err-values-clause-ran : goal.returns-in_err-values-clause-ran
+returns-in_err-values-clause-ran g c =
+    let s = g.S.InScope.scope in
+    let p = err_from_is_err_and c.from_residual.result c.from_residual.ensures.1 in
+    let same : p.0 ≡ c.in_err-values.field-0.0 = (let e = p.2 in cc) in
+    given_stops s (eval s.doc c.args.depth) c.args.inst c.args.slot c.args.place.now _ _ _ _ _ p.0
+    c.from_residual.result
+    (map_by s.doc c.args.depth c.args.inst c.args.slot c.args.place.now c.args.keys.now
+    c.requires.body) c.requires.can c.in_err-values.ensures.ran p.1 same
+
+pub returns-clause-ran : goal.returns-clause-ran
+returns-clause-ran g c =
+    let s = g.S.InScope.scope in
+    given_plain_as s (eval s.doc c.args.depth) c.args.inst c.args.slot c.args.place.now _ _ _ _
+    c.in_ok-values.values c.as_slice.result.now c.map_of.result c.as_slice.ensures
+    (map_by s.doc c.args.depth c.args.inst c.args.slot c.args.place.now c.args.keys.now
+    c.requires.body) c.requires.can c.in_ok-values.ensures.ran refl c.map_of.ensures.exact
