@@ -145,7 +145,7 @@ same_count t used once only all =
     let ys : List CellName = each_once (filter_map as_cell used) in
     let more : length xs ≤ length ys = fewer same_cell cells_tell xs ys (once_in_tree t once) (λ c h. in_each_once (filter_map as_cell used) c (in_filter_map as_cell used (cell c.inst c.slot) c (only (cell c.inst c.slot) (in_names t c h)) refl)) in
     let less : length ys ≤ length xs = fewer same_cell cells_tell ys xs (once_each (filter_map as_cell used)) (λ c h. stored c (out_filter_map as_cell used c (out_each_once (filter_map as_cell used) c h))) in
-    omega (arith, length-map name_of t.cells, more, less)
+    omega (arith, length-map t.cells name_of, more, less)
   where
     of_name : (c : CellName) (x : Asked) → as_cell x ≡ Some c → x ≡ cell c.inst c.slot
     of_name c (cell i k) e = (let same : Some (named i k) ≡ Some c = e in let is : named i k ≡ c = cc in ap (λ (n : CellName). cell n.inst n.slot) is)

@@ -9,6 +9,7 @@ use Rattle.dg_lex.specs.Bytes.{Bytes}
 use Rattle.dg_top.specs.declared.answer.Answer.{Answer}
 use Rattle.dg_top.specs.declared.status.Status.{Status}
 use Rattle.dg_top.specs.declared.status.Status.TheVariants.{Ran, Refused, WriteFault, NoMemory, TooLong}
+use Rattle.dg_top.specs.declared.stream_fault.StreamFault.{StreamFault}
 use Rattle.dg_top.specs.declared.stream_fault.StreamFault.TheVariants as fault
 use Rattle.dg_top.specs.Ends.{WritesFrontOf, Ends, all_written, sink_failed, memory_lacked, nothing_written, IsMade, StopsEarly}
 use Rattle.dg_top.proofs.StreamLemmas.{appends_none}
@@ -61,3 +62,14 @@ module _ (P : Status → Bytes → Type 0) (text : Bytes) (given : P Ran text) (
 
   pub stream_lacked : StopsEarly text old new faults new_faults fault.NoMemory → Ends P old new faults new_faults NoMemory
   stream_lacked cause = memory_lacked Ran text given cause.0 cause.1
+
+module _ (text : Bytes) (old new : Option Bytes) (faults new_faults : ℕ) (e : StreamFault) (front : WritesFrontOf text old new) where
+  pub stops_lacking : e ≡ fault.NoMemory → new_faults ≡ faults → StopsEarly text old new faults new_faults e
+  stops_lacking is kept = subst (StopsEarly text old new faults new_faults) (sym is) (front, kept)
+
+  pub stops_failing : e ≡ fault.Failed → Rose faults new_faults → StopsEarly text old new faults new_faults e
+  stops_failing is rose = subst (StopsEarly text old new faults new_faults) (sym is) (front, rose)
+
+-- nothing was written of a text that has a byte
+pub none_of : (text : Bytes) (old : Option Bytes) → 0 < length text → WritesFrontOf text old old
+none_of text old some = record { front = []; rest = text; is_text = refl; some = some; written = appends_none old }

@@ -1,5 +1,5 @@
 -- A tree that stores what an ask uses holds the content of each cell to which the reply comes.
-use Rattle.std.proofs.Common.{◌≡◌, inl, inr, ℕ, suc, ◌==◌, Bool, true, false, List, [], ◌∷◌, ◌++◌, map, filter_map, Contains, Option, Some, None, option_map, Result, Ok, Err, refl, sym, ap, subst, ◌∙◌}
+use Rattle.std.proofs.Common.{◌≡◌, ◌⊎◌, inl, inr, ℕ, suc, ◌==◌, Bool, true, false, List, [], ◌∷◌, ◌++◌, map, filter_map, Contains, Option, Some, None, option_map, Result, Ok, Err, refl, sym, ap, subst, ◌∙◌}
 use Rattle.std.specs.Prelude.{find, IsSome}
 use Rattle.std.specs.Option.{option_map_or}
 use Rattle.std.proofs.lemmas.Bool.{eqb-true, eq-eqb}
@@ -37,7 +37,7 @@ use Rattle.dg_top.proofs.CountLemmas.{out_names}
 
 -- ---- the cells in a value are those that it names as held
 
-as_held : Named → Option Cell
+abbrev as_held : Named → Option Cell
 as_held (held_cell i k) = Some (i, k)
 as_held (made_lazy i k p) = None
 as_held (way_to i k) = None

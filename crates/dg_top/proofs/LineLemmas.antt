@@ -44,8 +44,15 @@ one_line doc p r seen is = rw is (append-nil (reply_line doc p.0 r seen).text, r
 
 -- ---- the first asks
 
+-- an ask with its number, counted from 1
+abbrev with_number : ℕ × Ask → ℕ × Ask
+with_number p = (suc p.0, p.1)
+
+abbrev at_number : Ask → ℕ → Option (ℕ × Ask)
+at_number a n = Some (suc n, a)
+
 got_numbered : (k n : ℕ) (xs : List Ask) (a : Ask) → slice_get xs n ≡ Some a
-    → slice_get (map (λ (p : ℕ × Ask). (suc p.0, p.1)) (enumerate_from k xs)) n ≡ Some (suc (k + n), a)
+    → slice_get (map with_number (enumerate_from k xs)) n ≡ Some (suc (k + n), a)
 got_numbered k n [] a e = absurd (let none : None ≡ Some a = e in cc)
 got_numbered k zero (x ∷ xs) a e =
     let same : k + 0 ≡ k = omega arith in
@@ -60,7 +67,9 @@ got_numbered k (suc n) (x ∷ xs) a e =
 
 module _ (doc : Doc) (n : ℕ) (a : Ask) (is : slice_get (asks_of doc) n ≡ Some a) where
   numbered : slice_get (numbered_asks doc) n ≡ Some (suc n, a)
-  numbered = got_numbered 0 n (asks_of doc) a is
+  numbered =
+      let same : 0 + n ≡ n = omega arith in
+      got_numbered 0 n (asks_of doc) a is ∙ ap (at_number a) same
 
   pub is_numbered : Contains (numbered_asks doc) (suc n, a)
   is_numbered = in_got (numbered_asks doc) n (suc n, a) numbered
@@ -106,7 +115,7 @@ some_count n = omega (arith, length-append (codes "cells ") (decimal n ++ line_e
 all_asks : (doc : Doc) → first_asks doc (length (asks_of doc)) ≡ numbered_asks doc
 all_asks doc =
     take_all (length (asks_of doc)) (numbered_asks doc)
-    (omega (arith, length-map (λ (p : ℕ × Ask). (suc p.0, p.1)) (enumerate_from 0 (asks_of doc)), length-enumerate_from 0 (asks_of doc)))
+    (omega (arith, length-map (enumerate_from 0 (asks_of doc)) with_number, length-enumerate_from 0 (asks_of doc)))
 
 pub report_is : (doc : Doc) → report doc ≡ (first_lines doc (length (asks_of doc))).text ++ cells_line (length (cells doc))
 unfolding report first_lines
@@ -142,6 +151,10 @@ front_of_report doc n old new written = record {
   some = some_behind doc n;
   written = written;
 }
+
+-- nothing of it
+pub some_report : (doc : Doc) → 0 < length (report doc)
+some_report doc = omega (arith, ap length (report_is doc), length-append (first_lines doc (length (asks_of doc))).text (cells_line (length (cells doc))), some_count (length (cells doc)))
 
 -- a front of the lines that come next
 pub front_of_lines : (doc : Doc) (from to k : ℕ) (text : Bytes) (old middle new : Option Bytes) → AreLinesBetween doc from to text → k < length text → Appends old middle (first_lines doc from).text → Appends middle new (take k text) → WritesFrontOf (report doc) old new

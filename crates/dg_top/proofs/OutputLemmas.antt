@@ -15,8 +15,7 @@ use Rattle.dg_decl.specs.Canonical.{canonical_text}
 use Rattle.dg_decl.specs.Diagnostics.{diagnostics}
 use Rattle.dg_diag.specs.Lines.{head_of, detail_text, line_of}
 use Rattle.dg_plan.specs.PlanLines.{plan_lines}
-use Rattle.dg_eval.specs.Report.{lines_of as reply_lines, report}
-use Rattle.dg_eval.specs.Asks.{numbered_asks, cells}
+use Rattle.dg_eval.specs.Report.{report}
 use Rattle.dg_top.specs.declared.status.Status.{Status}
 use Rattle.dg_top.specs.declared.status.Status.TheVariants.{Ran, Refused, BadWords, BadLine, TooLong}
 use Rattle.dg_top.specs.declared.command.Program.{Program}
@@ -25,6 +24,7 @@ use Rattle.dg_top.specs.declared.command.Command.{Command}
 use Rattle.dg_top.specs.declared.command.Command.TheVariants.{Run, Print, Check, Plan}
 use Rattle.dg_top.specs.Commands.{AsksFor, HasNoWords}
 use Rattle.dg_top.specs.Output.{document_limit, too_long_text, bad_line_text, accepted_text, lines_of, IsDiagnosed, Refuses, Gives, IsAnswer, too_long, bad_line, refused, ran, IsOutput, bad_words, answered, HasOneOutput, OneOutput}
+use Rattle.dg_top.proofs.LineLemmas.{some_report}
 use Rattle.dg_top.proofs.ReadingLemmas.{HasReading, is_read, is_bad, reading, one_line, one_refusal, one_given, bad_isnt_refused, bad_isnt_given, refused_isnt_given}
 
 -- ---- a command has one answer to bytes
@@ -245,13 +245,6 @@ some_text command bytes s x (refused {text = z} within refuses) isnt = refusal_i
 some_text command bytes s x (ran within gives) isnt = absurd (isnt refl)
 
 -- what is given but by printing and planning
-some_report : (doc : Doc) → 0 < length (report doc)
-unfolding report
-some_report doc =
-    let lines : Bytes = (reply_lines doc (numbered_asks doc) []).text in
-    let count : Bytes = decimal (length (cells doc)) in
-    omega (arith, length-append lines (codes "cells " ++ (count ++ line_end ∷ [])), length-append (codes "cells ") (count ++ line_end ∷ []), ends_with_line count)
-
 pub report_is_some : (bytes x : Bytes) → Gives Run bytes x → 0 < length x
 report_is_some bytes x f = subst (λ (z : Bytes). 0 < length z) (sym f.is_text) (some_report f.doc)
 

@@ -131,11 +131,34 @@ none_first : (xs : List Violation) (later : List (List Violation)) → first_fou
 none_first [] later none = (refl, none)
 none_first (x ∷ xs) later none = absurd (let e : x ∷ xs ≡ [] = none in cc)
 
--- so they do in a document that breaks no rule
-pub accepted_passes : (doc : Doc) → IsAccepted doc → PassesDependencies doc
-accepted_passes doc accepted =
+-- the stages of a document that breaks no rule
+
+record NothingFound (doc : Doc) : Type 0 where
+  pub passes : PassesDependencies doc
+  pub session : session_stage doc ≡ []
+  pub links : links_stage doc ≡ []
+
+nothing_found : (doc : Doc) → IsAccepted doc → NothingFound doc
+nothing_found doc accepted =
     let names = none_first (names_stage doc) (behind_names doc) (sym (from_names doc) ∙ accepted) in
     let types = none_first (types_stage doc) (behind_types doc) names.1 in
     let components = none_first (components_stage doc) (behind_components doc) types.1 in
     let dependencies = none_first (dependencies_stage doc) (behind_dependencies doc) components.1 in
-    passes_dependencies doc names.0 types.0 components.0 dependencies.0
+    let bindings = none_first (bindings_stage doc) (sizes_stage doc ∷ behind_sizes doc) dependencies.1 in
+    let sizes = none_first (sizes_stage doc) (behind_sizes doc) bindings.1 in
+    let session = none_first (session_stage doc) (behind_session doc) sizes.1 in
+    let links = none_first (links_stage doc) [] session.1 in
+    record {
+      passes = passes_dependencies doc names.0 types.0 components.0 dependencies.0;
+      session = session.0;
+      links = links.0;
+    }
+
+pub accepted_passes : (doc : Doc) → IsAccepted doc → PassesDependencies doc
+accepted_passes doc accepted = (nothing_found doc accepted).passes
+
+pub accepted_session : (doc : Doc) → IsAccepted doc → session_stage doc ≡ []
+accepted_session doc accepted = (nothing_found doc accepted).session
+
+pub accepted_links : (doc : Doc) → IsAccepted doc → links_stage doc ≡ []
+accepted_links doc accepted = (nothing_found doc accepted).links

@@ -6,3 +6,4 @@ pub mod Input
 pub mod Answers
 pub mod Ends
 pub mod Progress
+pub mod Prepared

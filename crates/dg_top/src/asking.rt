@@ -20,7 +20,7 @@ use dg_types::NoMemory;
 use dg_value::Reply;
 use std::alloc::Global;
 
-/// How many cells a tree stores, each of which is what the document says.
+/// How many cells a tree stores. All that it stores is what the document says.
 pub fn count_of<D: RunsDoc>(tree: &Tree<Of<D>>) -> usize
     ensures exact { result ≡ length tree.now.cells }
     ensures sound { IsSound D.document tree.now }
@@ -43,15 +43,15 @@ fn reply_to<D: RunsDoc>(
     requires asked { AreAsked D.document index tree.old.asked }
     ensures exact { IfOk result (λ r. answer_to D.document (suc index) ask.now ≡ Some r) }
     ensures held { IfOk result (λ r. HoldsReply D.document (content_in tree.new.cells) r) }
+    ensures sound { IfOk result (λ _. IsSound D.document tree.new) }
     ensures asked { IfOk result (λ _. AreAsked D.document (suc index) tree.new.asked) }
 {
     asks_are_answered();
     uses_end();
     held_are_used();
     replies_are_whole();
-    let before = count_of::<D>(tree);
     let reply = eval_ask(alloc, plan, world, index + 1, ask, tree)?;
-    let after = count_of::<D>(tree);
+    let _stored = count_of::<D>(tree);
     Ok(reply)
 }
 

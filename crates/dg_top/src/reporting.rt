@@ -7,28 +7,26 @@ ghost use Rattle.dg_decl.specs.Bounds.{IsBounded};
 ghost use Rattle.dg_decl.specs.Diagnostics.{IsAccepted};
 ghost use Rattle.dg_eval.specs.Report.{cells_line, report};
 ghost use Rattle.dg_requests.specs.Contexts.{IsContextOf};
-ghost use Rattle.dg_slots.specs.Links.{links_of};
-ghost use Rattle.dg_slots.specs.Plans.{plan_of};
-ghost use Rattle.dg_slots.specs.Sessions.{asks_of, session_of};
+ghost use Rattle.dg_slots.specs.Sessions.{asks_of};
 ghost use Rattle.dg_tree.specs.Stores.{nothing};
 ghost use Rattle.dg_top.specs.Ends.{StopsEarly};
+ghost use Rattle.dg_top.specs.Prepared.{IsPrepared};
 ghost use Rattle.dg_top.specs.Progress.{first_lines, AreAsked};
 
 use crate::asking::{count_of, lines_between};
 use crate::marker::{Of, RunsDoc};
 use crate::output::write_all;
-use crate::preparing::{classes_of, links_in, plan_in, session_in};
+use crate::preparing::{Prepared, prepare};
 use crate::stream_fault::StreamFault;
 use dg_decl::Doc;
 use dg_eval::World;
 use dg_io::Sink;
 use dg_names::Names;
 use dg_report::{ClassNames, Numbers};
-use dg_slots::{Ask, Plan, Session};
+use dg_slots::{Ask, Plan};
 use dg_tree::{Tree, world};
 use dg_types::NoMemory;
 use itoa::Buffer;
-use sqlite_items::Items;
 use std::alloc::Global;
 use std::marker::Brand;
 
@@ -122,17 +120,13 @@ fn write_replies<D: RunsDoc, K: Sink>(
 fn write_named<D: RunsDoc, K: Sink>(
     alloc: Global,
     d: &Doc,
-    plan: &Plan,
-    session: &Session,
-    links: &[Items<u32>],
+    p: &Prepared,
     sink: &mut K,
 ) -> Result<(), StreamFault>
     requires named { d.now ≡ D.document }
     requires bounded { IsBounded D.document }
     requires accepted { IsAccepted D.document }
-    requires plan { plan.now ≡ plan_of D.document }
-    requires session { session.now ≡ session_of D.document }
-    requires links { links.now ≡ links_of D.document }
+    requires prepared { IsPrepared D.document p.now }
     ensures exact { OnOk result (Appends (K.written sink.old) (K.written sink.new)
         (report D.document)) }
     ensures kept { OnOk result (K.faults sink.new ≡ K.faults sink.old) }
@@ -142,17 +136,10 @@ fn write_named<D: RunsDoc, K: Sink>(
 {
     let declared = Names::of(alloc, d)?;
     let names = ClassNames::of(alloc, &declared)?;
-    let world = world(alloc, session, links)?;
-    let mut tree = Tree::<Of<D>>::new(alloc, session, links)?;
-    write_replies::<D, K>(
-        alloc,
-        plan,
-        &world,
-        &names,
-        session.asks.as_slice(),
-        &mut tree,
-        sink,
-    )
+    let world = world(alloc, &p.session, p.links.as_slice())?;
+    let mut tree = Tree::<Of<D>>::new(alloc, &p.session, p.links.as_slice())?;
+    let asks = p.session.asks.as_slice();
+    write_replies::<D, K>(alloc, &p.plan, &world, &names, asks, &mut tree, sink)
 }
 
 /// Writes the report of an accepted document.
@@ -166,9 +153,6 @@ pub fn write_report<K: Sink>(alloc: Global, d: &Doc, sink: &mut K) -> Result<(),
         (K.written sink.new) (K.faults sink.old) (K.faults sink.new)) }
     ensures faults { K.faults sink.old ≤ K.faults sink.new }
 {
-    let t = classes_of(alloc, d)?;
-    let plan = plan_in(alloc, d, &t)?;
-    let session = session_in(alloc, d, &t)?;
-    let links = links_in(alloc, d, &t)?;
-    write_named::<Brand, K>(alloc, d, &plan, &session, links.as_slice(), sink)
+    let prepared = prepare(alloc, d)?;
+    write_named::<Brand, K>(alloc, d, &prepared, sink)
 }

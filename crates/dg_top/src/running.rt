@@ -1,12 +1,12 @@
 //! A run over the bytes of a document: its diagnostics, or else its report.
 
-ghost use Rattle.std.specs.Prelude.{◌≡◌, ◌≤◌, length};
+ghost use Rattle.std.specs.Prelude.{◌≡◌, ◌≤◌, length, IfOk};
 ghost use Rattle.dg_decl.specs.Bounds.{IsBounded};
 ghost use Rattle.dg_decl.specs.Diagnostics.{IsAccepted};
 ghost use Rattle.dg_eval.specs.Report.{report};
 ghost use Rattle.dg_top.specs.Answers.{AnswersDoc};
 ghost use Rattle.dg_top.specs.Ends.{Ends};
-ghost use Rattle.dg_top.specs.Output.{document_limit, IsAnswer};
+ghost use Rattle.dg_top.specs.Output.{document_limit, lines_of, IsAnswer};
 
 use crate::answer::{Answer, bad_line};
 use crate::checking::lines_of;
