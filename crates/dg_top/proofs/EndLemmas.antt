@@ -45,11 +45,15 @@ front_within text n old new less written = record {
 
 -- ---- an answer that was made
 
-pub made_written : (a : Answer) (old new : Option Bytes) (faults new_faults : ℕ) → Appends old new a.text.items → new_faults ≡ faults → Ends (IsMade (Ok a)) old new faults new_faults a.status
-made_written a old new faults new_faults written kept = all_written a.status a.text.items (refl, refl) written kept
+module _ (made : Result Answer no_memory) (a : Answer) (is : made ≡ Ok a) (old new : Option Bytes) (faults new_faults : ℕ) where
+  made_is : IsMade made a.status a.text.items
+  made_is = subst (λ (m : Result Answer no_memory). IsMade m a.status a.text.items) (sym is) (refl, refl)
 
-pub made_failed : (a : Answer) (n : ℕ) (old new : Option Bytes) (faults new_faults : ℕ) → n < length a.text.items → Appends old new (take n a.text.items) → Rose faults new_faults → Ends (IsMade (Ok a)) old new faults new_faults WriteFault
-made_failed a n old new faults new_faults less written rose = sink_failed a.status a.text.items (refl, refl) (front_within a.text.items n old new less written) rose
+  pub made_written : Appends old new a.text.items → new_faults ≡ faults → Ends (IsMade made) old new faults new_faults a.status
+  made_written written kept = all_written a.status a.text.items made_is written kept
+
+  pub made_failed : (n : ℕ) → n < length a.text.items → Appends old new (take n a.text.items) → Rose faults new_faults → Ends (IsMade made) old new faults new_faults WriteFault
+  made_failed n less written rose = sink_failed a.status a.text.items made_is (front_within a.text.items n old new less written) rose
 
 -- ---- a text that is written piece by piece
 

@@ -112,7 +112,7 @@ ends_some front b = omega (arith, length-append front (b ∷ []))
 some_count : (n : ℕ) → 0 < length (cells_line n)
 some_count n = omega (arith, length-append (codes "cells ") (decimal n ++ line_end ∷ []), ends_some (decimal n) line_end)
 
-all_asks : (doc : Doc) → first_asks doc (length (asks_of doc)) ≡ numbered_asks doc
+pub all_asks : (doc : Doc) → first_asks doc (length (asks_of doc)) ≡ numbered_asks doc
 all_asks doc =
     take_all (length (asks_of doc)) (numbered_asks doc)
     (omega (arith, length-map (enumerate_from 0 (asks_of doc)) with_number, length-enumerate_from 0 (asks_of doc)))

@@ -1,5 +1,5 @@
 -- What asks use, one after the other.
-use Rattle.std.proofs.Common.{◌≡◌, inl, inr, ℕ, zero, suc, List, [], ◌∷◌, ◌++◌, flat_map, Contains, Option, Some, None, refl, sym, ap, subst, ◌∙◌}
+use Rattle.std.proofs.Common.{◌≡◌, inl, inr, ℕ, zero, suc, List, [], ◌∷◌, ◌++◌, length, filter_map, flat_map, Contains, Option, Some, None, refl, sym, ap, subst, ◌∙◌}
 use Rattle.std.specs.Prelude.{IsSome}
 use Rattle.std.proofs.lemmas.Grind.{flat_map-append}
 use Rattle.std.proofs.lemmas.List.{append-nil}
@@ -10,12 +10,15 @@ use Rattle.dg_decl.specs.declared.document.Doc.{Doc}
 use Rattle.dg_decl.specs.Diagnostics.{IsAccepted}
 use Rattle.dg_slots.specs.declared.session.Ask.{Ask}
 use Rattle.dg_eval.specs.Runs.{Asked, Run, asks_of}
-use Rattle.dg_eval.specs.Asks.{Reached, reply_of, run_of_ask, answer_to, numbered_asks, asked_by, used, used_by_ask}
+use Rattle.dg_slots.specs.Sessions.{asks_of as asks_of_doc}
+use Rattle.dg_eval.specs.Asks.{Reached, reply_of, run_of_ask, answer_to, numbered_asks, asked_by, used, used_by_ask, as_cell, each_once, cells_of, cells}
 use Rattle.dg_promises.specs.Uses.{used_by_asks, AsksAreAnswered, UsesEnd}
 use Rattle.dg_requests.specs.Results.{MayAsk, MayRun, CanRun}
 use Rattle.dg_requests.specs.Scopes.{Scope, IsClosed, Exactly}
 use Rattle.dg_tree.specs.Stores.{Stored, names, IsSound}
 use Rattle.dg_top.specs.Progress.{first_asks, used_by_first, AreAsked}
+use Rattle.dg_top.proofs.CountLemmas.{same_count}
+use Rattle.dg_top.proofs.LineLemmas.{all_asks}
 
 -- ---- uses
 
@@ -128,3 +131,11 @@ settled_asked doc n t sound before = record {
   used = λ x h. before.used x (sound.stored_asked x h);
   all = λ x h. sound.asked_stored x (before.all x h);
 }
+
+-- behind the last ask, as many cells are stored as the asks of the document use
+pub cell_count : (doc : Doc) (n : ℕ) (t : Stored) → n ≡ length (asks_of_doc doc) → IsSound doc t → AreAsked doc n t.asked → length t.cells ≡ length (cells doc)
+unfolding cells cells_of used_by_first
+cell_count doc n t is sound after =
+    let all : first_asks doc n ≡ numbered_asks doc = ap (first_asks doc) is ∙ all_asks doc in
+    same_count t (used_by_first doc n) sound.once (λ x h. after.used x (sound.stored_asked x h)) (λ x h. sound.asked_stored x (after.all x h))
+    ∙ ap (λ (ps : List (ℕ × Ask)). length (each_once (filter_map as_cell (flat_map (used_by_ask doc) ps)))) all
