@@ -1,6 +1,8 @@
 -- Ends of runs.
 use Rattle.std.proofs.Common.{◌≡◌, ◌<◌, ℕ, List, [], ◌++◌, length, take, drop, Option, Result, Ok, Err, refl, sym, ap, subst, ◌∙◌, arith}
-use Rattle.std.specs.Prelude.{IfOk}
+use Rattle.std.specs.Prelude.{IfOk, IfErr}
+use Rattle.std.specs.Result.{IsErrAnd}
+use Rattle.std.proofs.lemmas.Result.{err_from_is_err_and}
 use Rattle.std.specs.Io.KnownBytes.{Appends}
 use Rattle.std.proofs.lemmas.List.{length-drop, take-append-drop}
 use Rattle.dg_io.specs.Causes.{Rose}
@@ -16,10 +18,10 @@ use Rattle.dg_top.proofs.StreamLemmas.{appends_none}
 
 -- a run ends so with other answers to give, where each of the first is one of the others
 pub ends_as : (P Q : Status → Bytes → Type 0) (old new : Option Bytes) (faults new_faults : ℕ) (status : Status) → ((s : Status) (t : Bytes) → P s t → Q s t) → Ends P old new faults new_faults status → Ends Q old new faults new_faults status
-ends_as P Q old new faults new_faults status as (all_written s text given written kept) = all_written s text (as s text given) written kept
-ends_as P Q old new faults new_faults status as (sink_failed s text given front rose) = sink_failed s text (as s text given) front rose
-ends_as P Q old new faults new_faults status as (memory_lacked s text given front kept) = memory_lacked s text (as s text given) front kept
-ends_as P Q old new faults new_faults status as (nothing_written written kept) = nothing_written written kept
+ends_as P Q old new faults new_faults status each (all_written s text given written kept) = all_written s text (each s text given) written kept
+ends_as P Q old new faults new_faults status each (sink_failed s text given front rose) = sink_failed s text (each s text given) front rose
+ends_as P Q old new faults new_faults status each (memory_lacked s text given front kept) = memory_lacked s text (each s text given) front kept
+ends_as P Q old new faults new_faults status each (nothing_written written kept) = nothing_written written kept
 
 -- the same of an answer that was made
 pub made_as : (P : Status → Bytes → Type 0) (made : Result Answer no_memory) (old new : Option Bytes) (faults new_faults : ℕ) (status : Status) → IfOk made (λ a. P a.status a.text.items) → Ends (IsMade made) old new faults new_faults status → Ends P old new faults new_faults status
@@ -67,12 +69,17 @@ module _ (P : Status → Bytes → Type 0) (text : Bytes) (given : P Ran text) (
   pub stream_lacked : StopsEarly text old new faults new_faults fault.NoMemory → Ends P old new faults new_faults NoMemory
   stream_lacked cause = memory_lacked Ran text given cause.0 cause.1
 
-module _ (text : Bytes) (old new : Option Bytes) (faults new_faults : ℕ) (e : StreamFault) (front : WritesFrontOf text old new) where
-  pub stops_lacking : e ≡ fault.NoMemory → new_faults ≡ faults → StopsEarly text old new faults new_faults e
-  stops_lacking is kept = subst (StopsEarly text old new faults new_faults) (sym is) (front, kept)
+module _ {T : Type 0} (text : Bytes) (old new : Option Bytes) (faults new_faults : ℕ) (r : Result T StreamFault) (front : WritesFrontOf text old new) where
+  stops : (e : StreamFault) → StopsEarly text old new faults new_faults e → IsErrAnd r (λ f. f ≡ e) → IfErr r (StopsEarly text old new faults new_faults)
+  stops e cause is =
+      let p = err_from_is_err_and r is in
+      subst (λ (x : Result T StreamFault). IfErr x (StopsEarly text old new faults new_faults)) (sym p.1) (subst (StopsEarly text old new faults new_faults) (sym p.2) cause)
 
-  pub stops_failing : e ≡ fault.Failed → Rose faults new_faults → StopsEarly text old new faults new_faults e
-  stops_failing is rose = subst (StopsEarly text old new faults new_faults) (sym is) (front, rose)
+  pub stops_lacking : new_faults ≡ faults → IsErrAnd r (λ f. f ≡ fault.NoMemory) → IfErr r (StopsEarly text old new faults new_faults)
+  stops_lacking kept is = stops fault.NoMemory (front, kept) is
+
+  pub stops_failing : Rose faults new_faults → IsErrAnd r (λ f. f ≡ fault.Failed) → IfErr r (StopsEarly text old new faults new_faults)
+  stops_failing rose is = stops fault.Failed (front, rose) is
 
 -- nothing was written of a text that has a byte
 pub none_of : (text : Bytes) (old : Option Bytes) → 0 < length text → WritesFrontOf text old old

@@ -1,5 +1,6 @@
 //! How a run names its document in contracts.
 
+ghost use Rattle.std.specs.Prelude.{[]};
 ghost use Rattle.dg_decl.specs.declared.document.Doc.{Doc};
 
 use dg_slots::OfDoc;
