@@ -47,7 +47,8 @@ module _ {A : Type 0} (same : A → A → Bool) (tells : Decides same) where
   is_equivalence : IsEquivalence same
   is_equivalence = record {
     refl = λ x. (tells x x).1 refl;
-    symm = λ x y. equal_tests (same x y) (same y x) (λ e. (tells y x).1 (sym ((tells x y).0 e))) (λ e. (tells x y).1 (sym ((tells y x).0 e)));
+    symm = λ x y. equal_tests (same x y) (same y x) (λ e. (tells y x).1 (sym ((tells x y).0 e))) (λ
+        e. (tells x y).1 (sym ((tells y x).0 e)));
     congr = λ x y z e. ap (λ (w : A). same w z) ((tells x y).0 e);
   }
 
@@ -73,20 +74,25 @@ pub in_each_once : (cs : List CellName) (x : CellName) → Contains cs x → Con
 in_each_once [] x h = absurd (none_in x h)
 in_each_once (c ∷ cs) x h =
     elim (first_or_rest x c cs h) [
-      | inl e ↦ subst (Contains (each_once (c ∷ cs))) e (in_front c (filter (λ d. not (same_cell c d)) (each_once cs)))
+      | inl e ↦ subst (Contains (each_once (c ∷ cs))) e (in_front c (filter (λ d. not (same_cell c
+          d)) (each_once cs)))
       | inr r ↦ of_test (same_cell c x) refl (in_each_once cs x r)
     ]
   where
-    of_test : (b : Bool) → same_cell c x ≡ b → Contains (each_once cs) x → Contains (each_once (c ∷ cs)) x
-    of_test true e r = subst (Contains (each_once (c ∷ cs))) ((cells_tell c x).0 e) (in_front c (filter (λ d. not (same_cell c d)) (each_once cs)))
-    of_test false e r = in_rest x c (filter (λ d. not (same_cell c d)) (each_once cs)) (in_filter (λ d. not (same_cell c d)) (each_once cs) x r (ap not e))
+    of_test : (b : Bool) → same_cell c x ≡ b → Contains (each_once cs) x
+        → Contains (each_once (c ∷ cs)) x
+    of_test true e r = subst (Contains (each_once (c ∷ cs))) ((cells_tell c x).0 e) (in_front c
+        (filter (λ d. not (same_cell c d)) (each_once cs)))
+    of_test false e r = in_rest x c (filter (λ d. not (same_cell c d)) (each_once cs)) (in_filter (λ
+        d. not (same_cell c d)) (each_once cs) x r (ap not e))
 
 pub out_each_once : (cs : List CellName) (x : CellName) → Contains (each_once cs) x → Contains cs x
 out_each_once [] x h = absurd (none_in x h)
 out_each_once (c ∷ cs) x h =
     elim (first_or_rest x c (filter (λ d. not (same_cell c d)) (each_once cs)) h) [
       | inl e ↦ subst (Contains (c ∷ cs)) e (in_front c cs)
-      | inr r ↦ in_rest x c cs (out_each_once cs x (out_filter (λ d. not (same_cell c d)) (each_once cs) x r).0)
+      | inr r ↦ in_rest x c cs (out_each_once cs x (out_filter (λ d. not (same_cell c d)) (each_once
+          cs) x r).0)
     ]
 
 -- ---- what a tree stores
@@ -97,35 +103,45 @@ name_of c = named c.0 c.1
 abbrev first_part : Asked × Kept → Asked
 first_part p = p.0
 
-cells_of_stored : (cs : List CellKept) (rest : List (Asked × Kept)) (c : CellName) → Contains (map name_of cs) c
+cells_of_stored : (cs : List CellKept) (rest : List (Asked × Kept)) (c : CellName)
+    → Contains (map name_of cs) c
     → Contains (map first_part (map of_cell cs ++ rest)) (cell c.inst c.slot)
 cells_of_stored [] rest c h = absurd (none_in c h)
 cells_of_stored (d ∷ cs) rest c h =
     elim (first_or_rest c (name_of d) (map name_of cs) h) [
-      | inl e ↦ subst (λ (n : CellName). Contains (map first_part (map of_cell (d ∷ cs) ++ rest)) (cell n.inst n.slot)) e (in_front (cell d.0 d.1) (map first_part (map of_cell cs ++ rest)))
-      | inr r ↦ in_rest (cell c.inst c.slot) (cell d.0 d.1) (map first_part (map of_cell cs ++ rest)) (cells_of_stored cs rest c r)
+      | inl e ↦ subst (λ (n : CellName). Contains (map first_part (map of_cell (d ∷ cs) ++ rest))
+          (cell n.inst n.slot)) e (in_front (cell d.0 d.1) (map first_part (map of_cell cs ++
+          rest)))
+      | inr r ↦ in_rest (cell c.inst c.slot) (cell d.0 d.1) (map first_part (map of_cell cs ++
+          rest)) (cells_of_stored cs rest c r)
     ]
 
-once_stored : (cs : List CellKept) (rest : List (Asked × Kept)) → IsEachOnce (map first_part (map of_cell cs ++ rest)) → Once (map name_of cs)
+once_stored : (cs : List CellKept) (rest : List (Asked × Kept))
+    → IsEachOnce (map first_part (map of_cell cs ++ rest)) → Once (map name_of cs)
 once_stored [] rest once = tt
-once_stored (c ∷ cs) rest once = (λ h. once.0 (cells_of_stored cs rest (name_of c) h), once_stored cs rest once.1)
+once_stored (c ∷ cs) rest once = (λ h. once.0 (cells_of_stored cs rest (name_of c) h), once_stored
+    cs rest once.1)
 
 pub once_in_tree : (t : Stored) → IsEachOnce (names t) → Once (map name_of t.cells)
 once_in_tree t once = once_stored t.cells (map of_lazy t.lazies) once
 
-pub in_names : (t : Stored) (c : CellName) → Contains (map name_of t.cells) c → Contains (names t) (cell c.inst c.slot)
+pub in_names : (t : Stored) (c : CellName) → Contains (map name_of t.cells) c
+    → Contains (names t) (cell c.inst c.slot)
 in_names t c h = cells_of_stored t.cells (map of_lazy t.lazies) c h
 
 lazy_isnt_cell : (l : LazyKept) (i k : ℕ) → lazy l.0 l.1 l.2 ≡ cell i k → ⊥
 lazy_isnt_cell l i k e = absurd cc
 
 cell_is : (c : CellKept) (i k : ℕ) → cell c.0 c.1 ≡ cell i k → name_of c ≡ named i k
-cell_is c i k e = named_same c.0 c.1 i k (let same : cell c.0 c.1 ≡ cell i k = e in cc) (let same : cell c.0 c.1 ≡ cell i k = e in cc)
+cell_is c i k e = named_same c.0 c.1 i k (let same : cell c.0 c.1 ≡ cell i k = e in cc) (let same :
+    cell c.0 c.1 ≡ cell i k = e in cc)
 
-pub out_names : (t : Stored) (i k : ℕ) → Contains (names t) (cell i k) → (c : CellKept) × Contains t.cells c × (name_of c ≡ named i k)
+pub out_names : (t : Stored) (i k : ℕ) → Contains (names t) (cell i k)
+    → (c : CellKept) × Contains t.cells c × (name_of c ≡ named i k)
 out_names t i k h = of_part (out_map first_part (contents t) (cell i k) h)
   where
-    of_part : (p : Asked × Kept) × Contains (contents t) p × (first_part p ≡ cell i k) → (c : CellKept) × Contains t.cells c × (name_of c ≡ named i k)
+    of_part : (p : Asked × Kept) × Contains (contents t) p × (first_part p ≡ cell i k)
+        → (c : CellKept) × Contains t.cells c × (name_of c ≡ named i k)
     of_part p = elim (Contains-append_cases (map of_cell t.cells) (map of_lazy t.lazies) p.0 p.1) [
       | inl l ↦ (let o = out_map of_cell t.cells p.0 l in
           (o.0, o.1, cell_is o.0 i k (ap first_part o.2 ∙ p.2)))
@@ -143,15 +159,22 @@ pub same_count : (t : Stored) (used : List Asked) → IsEachOnce (names t)
 same_count t used once only all =
     let xs : List CellName = map name_of t.cells in
     let ys : List CellName = each_once (filter_map as_cell used) in
-    let more : length xs ≤ length ys = fewer same_cell cells_tell xs ys (once_in_tree t once) (λ c h. in_each_once (filter_map as_cell used) c (in_filter_map as_cell used (cell c.inst c.slot) c (only (cell c.inst c.slot) (in_names t c h)) refl)) in
-    let less : length ys ≤ length xs = fewer same_cell cells_tell ys xs (once_each (filter_map as_cell used)) (λ c h. stored c (out_filter_map as_cell used c (out_each_once (filter_map as_cell used) c h))) in
+    let more : length xs ≤ length ys = fewer same_cell cells_tell xs ys (once_in_tree t once) (λ c
+        h. in_each_once (filter_map as_cell used) c (in_filter_map as_cell used (cell c.inst c.slot)
+        c (only (cell c.inst c.slot) (in_names t c h)) refl)) in
+    let less : length ys ≤ length xs = fewer same_cell cells_tell ys xs (once_each (filter_map
+        as_cell used)) (λ c h. stored c (out_filter_map as_cell used c (out_each_once (filter_map
+        as_cell used) c h))) in
     omega (arith, length-map t.cells name_of, more, less)
   where
     of_name : (c : CellName) (x : Asked) → as_cell x ≡ Some c → x ≡ cell c.inst c.slot
-    of_name c (cell i k) e = (let same : Some (named i k) ≡ Some c = e in let is : named i k ≡ c = cc in ap (λ (n : CellName). cell n.inst n.slot) is)
+    of_name c (cell i k) e = (let same : Some (named i k) ≡ Some c = e in let is : named i k ≡ c =
+        cc in ap (λ (n : CellName). cell n.inst n.slot) is)
     of_name c (lazy i k p) e = absurd (let none : None ≡ Some c = e in cc)
 
-    stored : (c : CellName) → (x : Asked) × Contains used x × (as_cell x ≡ Some c) → Contains (map name_of t.cells) c
+    stored : (c : CellName) → (x : Asked) × Contains used x × (as_cell x ≡ Some c)
+        → Contains (map name_of t.cells) c
     stored c f =
-        let o = out_names t c.inst c.slot (all (cell c.inst c.slot) (subst (Contains used) (of_name c f.0 f.2) f.1)) in
+        let o = out_names t c.inst c.slot (all (cell c.inst c.slot) (subst (Contains used) (of_name
+            c f.0 f.2) f.1)) in
         subst (Contains (map name_of t.cells)) o.2 (in_map name_of t.cells o.0 o.1)

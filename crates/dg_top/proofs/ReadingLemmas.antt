@@ -29,55 +29,70 @@ reading bytes = from_law bytes (reads_once bytes)
 pub one_line : (bytes : Bytes) (m n : ℕ) → FirstBad bytes m → FirstBad bytes n → n ≡ m
 one_line bytes m n f g = of_reading bytes m n (reading bytes) f g
   where
-    of_reading : (bytes : Bytes) (m n : ℕ) → HasReading bytes → FirstBad bytes m → FirstBad bytes n → n ≡ m
+    of_reading : (bytes : Bytes) (m n : ℕ) → HasReading bytes → FirstBad bytes m
+        → FirstBad bytes n → n ≡ m
     of_reading bytes m n (is_read doc reads only none) f g = absurd (none m f)
     of_reading bytes m n (is_bad line first only none) f g = only n g ∙ sym (only m f)
 
 one_doc : (bytes : Bytes) (d e : Doc) → Reads bytes d → Reads bytes e → e ≡ d
 one_doc bytes d e f g = of_reading bytes d e (reading bytes) f g
   where
-    of_reading : (bytes : Bytes) (d e : Doc) → HasReading bytes → Reads bytes d → Reads bytes e → e ≡ d
+    of_reading : (bytes : Bytes) (d e : Doc) → HasReading bytes → Reads bytes d → Reads bytes e
+        → e ≡ d
     of_reading bytes d e (is_read doc reads only none) f g = only e g ∙ sym (only d f)
     of_reading bytes d e (is_bad line first only none) f g = absurd (none d f)
 
 not_both : (bytes : Bytes) (n : ℕ) (d : Doc) → FirstBad bytes n → Reads bytes d → ⊥
 not_both bytes n d f g = of_reading bytes n d (reading bytes) f g
   where
-    of_reading : (bytes : Bytes) (n : ℕ) (d : Doc) → HasReading bytes → FirstBad bytes n → Reads bytes d → ⊥
+    of_reading : (bytes : Bytes) (n : ℕ) (d : Doc) → HasReading bytes → FirstBad bytes n
+        → Reads bytes d → ⊥
     of_reading bytes n d (is_read doc reads only none) f g = none n f
     of_reading bytes n d (is_bad line first only none) f g = none d g
 
 -- ---- by command
 
 one_diagnosed : (bytes x y : Bytes) → IsDiagnosed bytes x → IsDiagnosed bytes y → y ≡ x
-one_diagnosed bytes x y f g = g.is_text ∙ ap (λ (d : Doc). lines_of (diagnostics d)) (one_doc bytes f.doc g.doc f.reads g.reads) ∙ sym f.is_text
+one_diagnosed bytes x y f g = g.is_text ∙ ap (λ (d : Doc). lines_of (diagnostics d)) (one_doc bytes
+    f.doc g.doc f.reads g.reads) ∙ sym f.is_text
 
-pub one_refusal : (command : Command) (bytes x y : Bytes) → Refuses command bytes x → Refuses command bytes y → y ≡ x
+pub one_refusal : (command : Command) (bytes x y : Bytes) → Refuses command bytes x
+    → Refuses command bytes y → y ≡ x
 one_refusal Run bytes x y f g = one_diagnosed bytes x y f g
 one_refusal Print bytes x y f g = absurd f
 one_refusal Check bytes x y f g = one_diagnosed bytes x y f g
 one_refusal Plan bytes x y f g = one_diagnosed bytes x y f g
 
-pub one_given : (command : Command) (bytes x y : Bytes) → Gives command bytes x → Gives command bytes y → y ≡ x
-one_given Run bytes x y f g = g.is_text ∙ ap report (one_doc bytes f.doc g.doc f.reads g.reads) ∙ sym f.is_text
+pub one_given : (command : Command) (bytes x y : Bytes) → Gives command bytes x
+    → Gives command bytes y → y ≡ x
+one_given Run bytes x y f g = g.is_text ∙ ap report (one_doc bytes f.doc g.doc f.reads g.reads)
+    ∙ sym f.is_text
 one_given Check bytes x y f g = g.is_text ∙ sym f.is_text
-one_given Print bytes x y f g = g.is_text ∙ ap canonical_text (one_doc bytes f.doc g.doc f.reads g.reads) ∙ sym f.is_text
-one_given Plan bytes x y f g = g.is_text ∙ ap plan_lines (one_doc bytes f.doc g.doc f.reads g.reads) ∙ sym f.is_text
+one_given Print bytes x y f g = g.is_text ∙ ap canonical_text (one_doc bytes f.doc g.doc f.reads
+    g.reads) ∙ sym f.is_text
+one_given Plan bytes x y f g = g.is_text ∙ ap plan_lines (one_doc bytes f.doc g.doc f.reads g.reads)
+    ∙ sym f.is_text
 
-pub bad_isnt_refused : (command : Command) (bytes : Bytes) (n : ℕ) (x : Bytes) → FirstBad bytes n → Refuses command bytes x → ⊥
+pub bad_isnt_refused : (command : Command) (bytes : Bytes) (n : ℕ) (x : Bytes) → FirstBad bytes n
+    → Refuses command bytes x → ⊥
 bad_isnt_refused Run bytes n x f g = not_both bytes n g.doc f g.reads
 bad_isnt_refused Print bytes n x f g = g
 bad_isnt_refused Check bytes n x f g = not_both bytes n g.doc f g.reads
 bad_isnt_refused Plan bytes n x f g = not_both bytes n g.doc f g.reads
 
-pub bad_isnt_given : (command : Command) (bytes : Bytes) (n : ℕ) (x : Bytes) → FirstBad bytes n → Gives command bytes x → ⊥
+pub bad_isnt_given : (command : Command) (bytes : Bytes) (n : ℕ) (x : Bytes) → FirstBad bytes n
+    → Gives command bytes x → ⊥
 bad_isnt_given Run bytes n x f g = not_both bytes n g.doc f g.reads
 bad_isnt_given Check bytes n x f g = not_both bytes n g.doc f g.reads
 bad_isnt_given Print bytes n x f g = not_both bytes n g.doc f g.reads
 bad_isnt_given Plan bytes n x f g = not_both bytes n g.doc f g.reads
 
-pub refused_isnt_given : (command : Command) (bytes x y : Bytes) → Refuses command bytes x → Gives command bytes y → ⊥
-refused_isnt_given Run bytes x y f g = f.broken (ap diagnostics (one_doc bytes g.doc f.doc g.reads f.reads) ∙ g.accepted)
+pub refused_isnt_given : (command : Command) (bytes x y : Bytes) → Refuses command bytes x
+    → Gives command bytes y → ⊥
+refused_isnt_given Run bytes x y f g = f.broken (ap diagnostics (one_doc bytes g.doc f.doc g.reads
+    f.reads) ∙ g.accepted)
 refused_isnt_given Print bytes x y f g = f
-refused_isnt_given Check bytes x y f g = f.broken (ap diagnostics (one_doc bytes g.doc f.doc g.reads f.reads) ∙ g.accepted)
-refused_isnt_given Plan bytes x y f g = f.broken (ap diagnostics (one_doc bytes g.doc f.doc g.reads f.reads) ∙ g.accepted)
+refused_isnt_given Check bytes x y f g = f.broken (ap diagnostics (one_doc bytes g.doc f.doc g.reads
+    f.reads) ∙ g.accepted)
+refused_isnt_given Plan bytes x y f g = f.broken (ap diagnostics (one_doc bytes g.doc f.doc g.reads
+    f.reads) ∙ g.accepted)

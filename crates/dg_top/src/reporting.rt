@@ -1,5 +1,5 @@
-//! The report of an accepted document, written in windows: what is made of it at a time is the lines
-//! of at most 256 replies.
+//! The report of an accepted document, written in windows: what is made of it at a time is the
+//! lines of at most 256 replies.
 
 ghost use Rattle.std.specs.Prelude.{◌≡◌, ◌≤◌, ◌<◌, ◌^◌, [], length, IfOk, IfErr, OnOk};
 ghost use Rattle.std.specs.Io.KnownBytes.{Appends};
@@ -24,7 +24,7 @@ use dg_io::Sink;
 use dg_names::Names;
 use dg_report::{ClassNames, Numbers};
 use dg_slots::{Ask, Plan};
-use dg_tree::{Tree, world};
+use dg_tree::{Tree, world_from};
 use dg_types::NoMemory;
 use itoa::Buffer;
 use std::alloc::Global;
@@ -136,7 +136,7 @@ fn write_named<D: RunsDoc, K: Sink>(
 {
     let declared = Names::of(alloc, d)?;
     let names = ClassNames::of(alloc, &declared)?;
-    let world = world(alloc, &p.session, p.links.as_slice())?;
+    let world = world_from(alloc, &p.session, p.links.as_slice())?;
     let mut tree = Tree::<Of<D>>::new(alloc, &p.session, p.links.as_slice())?;
     let asks = p.session.asks.as_slice();
     write_replies::<D, K>(alloc, &p.plan, &world, &names, asks, &mut tree, sink)

@@ -35,7 +35,8 @@ ask a.page
 const FAILING: &[u8] = b"\
 module M {
   produces head() : Text = fail(\"no head\")
-  produces safe(h: Produced<Text>) : @Named(\"s\") Text = if ok(h) then value(h) else cat(\"none: \", failure(h))
+  produces safe(h: Produced<Text>) : @Named(\"s\") Text = if ok(h) then value(h) \
+  else cat(\"none: \", failure(h))
 }
 component App modules M {
   entry head : Text

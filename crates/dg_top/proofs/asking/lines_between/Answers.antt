@@ -14,7 +14,8 @@ loop-index-preserved g c =
     let seen : c.ask_line.new.numbers ≡ (first_lines doc (suc n)).seen = search rules in
     let items = rw c.as_slice.ensures.value at c.in_ok-extend_from_slice.ensures.items in
     record {
-      lines = rw (items, next) (lines_then doc c.args.from n (suc n) c.loop-index.text.items line c.loop-index.invariant.lines more);
+      lines = rw (items, next) (lines_then doc c.args.from n (suc n) c.loop-index.text.items line
+          c.loop-index.invariant.lines more);
       asked = rw next asked;
       appeared = rw next seen;
       within = omega (arith, c.loop-index-test.true);
@@ -22,5 +23,7 @@ loop-index-preserved g c =
 
 pub returns-clause-asked : goal.returns-clause-asked
 returns-clause-asked g c =
-    let same : c.loop-index.index ≡ c.args.to = omega (arith, c.loop-index-test.false, c.loop-index.invariant.within) in
-    subst (λ (n : ℕ). AreAsked g.D.RunsDoc.document n c.loop-index.tree.asked) same c.loop-index.invariant.asked
+    let same : c.loop-index.index ≡ c.args.to = omega (arith, c.loop-index-test.false,
+        c.loop-index.invariant.within) in
+    subst (λ (n : ℕ). AreAsked g.D.RunsDoc.document n c.loop-index.tree.asked) same
+        c.loop-index.invariant.asked
