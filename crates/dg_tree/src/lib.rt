@@ -7,6 +7,7 @@ mod tree;
 mod world;
 
 pub use tree::Tree;
+pub use world::world_from;
 
 #[cfg(test)]
 mod tests;

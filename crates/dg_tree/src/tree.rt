@@ -14,7 +14,7 @@ ghost use Rattle.dg_tree.specs.Tables.{LooksUp};
 
 use crate::keys::{CellKey, LazyKey, Noted};
 use crate::parents::up;
-use crate::world::world;
+use crate::world::world_from;
 use dg_eval::World;
 use dg_requests::Cells;
 use dg_slots::{OfDoc, Session};
@@ -72,7 +72,7 @@ impl<D: OfDoc> Tree<D> {
         ensures exact { IfOk result (λ t. t ≡ nothing) }
     {
         Ok(Tree {
-            world: world(alloc, s, links)?,
+            world: world_from(alloc, s, links)?,
             cells: IndexMap::new(alloc),
             lazies: IndexMap::new(alloc),
             settled_cells: 0,

@@ -165,7 +165,7 @@ fn copied(alloc: Global, links: &[Items<u32>]) -> Result<Items<Items<u32>>, NoMe
 /// The world of a document: its instances, the values of their arguments, and to which instances
 /// they are tied.
 #[tactic(auto, unfolding(dg_eval::specs::World::world_of, dg_slots::specs::Sessions::session_of))]
-pub(crate) fn world(alloc: Global, s: &Session, links: &[Items<u32>]) -> Result<World, NoMemory>
+pub fn world_from(alloc: Global, s: &Session, links: &[Items<u32>]) -> Result<World, NoMemory>
     ensures exact { (doc : Doc) → s.now ≡ session_of doc → links.now ≡ links_of doc
         → IfOk result (λ w. w ≡ spec.world_of doc) }
 {
