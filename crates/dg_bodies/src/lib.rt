@@ -4,5 +4,4 @@
 mod operations;
 mod parts;
 
-pub use operations::{failed, mistyped};
 pub use parts::{elements, entry_value, entry_with, inside, production, value_if};
