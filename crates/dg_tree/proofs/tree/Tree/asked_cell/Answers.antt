@@ -1,0 +1,33 @@
+use Rattle.std.proofs.Common.{refl}
+use Rattle.dg_tree.proofs.StoreLemmas.{cell_asked, no_cell}
+use Rattle.dg_tree.proofs.tree.Tree.asked_cell.Goals as goal
+
+pub invariant_of-self-2 : goal.invariant_of-self-2
+invariant_of-self-2 g c =
+    let t = c.self.inside in
+    let steps = cell_asked g.D.OfDoc.document t.cells.entries t.lazies.entries t.settled_cells
+    t.settled_lazies t.notes.items c.push.new.self.items c.args.inst c.args.slot
+    c.in-Some.kept.now c.in_ok-copy.copy c.args.self.now c.self.view_is c.self.invariant.0
+    c.in-Some.ensures.value c.in_ok-copy.ensures.exact c.in_ok-push.ensures.items in
+    (steps.0.store, c.self.invariant.1)
+
+pub returns : goal.returns
+returns g c =
+    let t = c.self.inside in
+    let steps = cell_asked g.D.OfDoc.document t.cells.entries t.lazies.entries t.settled_cells
+    t.settled_lazies t.notes.items c.push.new.self.items c.args.inst c.args.slot
+    c.in-Some.kept.now c.in_ok-copy.copy c.args.self.now c.self.view_is c.self.invariant.0
+    c.in-Some.ensures.value c.in_ok-copy.ensures.exact c.in_ok-push.ensures.items in
+    record { exact = (steps.1, steps.0.asked) }
+
+pub returns-in_default : goal.returns-in_default
+returns-in_default g c =
+    let t = c.self.inside in
+    record {
+      exact = (
+        no_cell t.cells.entries t.lazies.entries t.settled_cells t.settled_lazies t.notes.items
+            c.args.inst
+            c.args.slot c.args.self.now c.self.view_is c.in_default.ensures.value,
+        refl,
+      );
+    }

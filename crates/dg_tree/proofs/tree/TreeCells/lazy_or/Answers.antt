@@ -1,0 +1,106 @@
+use Rattle.std.proofs.Common.{[], ◌∷◌, Contains, Result, Ok, Err, refl, sym, ap, subst}
+use Rattle.std.proofs.lemmas.Result.{err_from_is_err_and}
+use Rattle.dg_types.specs.declared.memory.NoMemory.{NoMemory}
+use Rattle.dg_value.specs.declared.value.Kept.{Kept}
+use Rattle.dg_value.specs.declared.place.Place.{Place}
+use Rattle.dg_eval.specs.Runs.{Asked, lazy}
+use Rattle.dg_eval.specs.Asks.{asked_by}
+use Rattle.dg_tree.specs.Tables.{LooksUp}
+use Rattle.dg_tree.specs.Stores.{names}
+use Rattle.dg_tree.proofs.AnswerLemmas.{Called, looked_none, looked_some, called_again, called_stopped, called_in_vain, called_made, made_closed}
+use Rattle.dg_tree.proofs.tree.TreeCells.lazy_or.Goals as goal
+
+pub returns-in_err-kept-in-None : goal.returns-in_err-kept-in-None
+returns-in_err-kept-in-None g c =
+    let doc = g.D.OfDoc.document in
+    let x = lazy c.args.inst c.args.slot c.args.place.now in
+    let start = c.asked_lazy.new.self.asked in
+    let at = c.in_ok-copy.ensures.exact in
+    let looked = subst (λ (p : Place). LooksUp doc (lazy c.args.inst c.args.slot p)
+    (names c.args.self.now) c.args.self.now.asked start (Ok c.in_ok-kept.field-0)) at
+    c.in_ok-kept.ensures.exact in
+    let first = looked_none doc x (names c.args.self.now) c.args.self.now.asked start
+    c.in_ok-kept.field-0 c.in-None.is
+    looked in
+    let made = c.requires.gives c.asked_lazy.new.self c.build.new.cells
+    (Err c.in_err-kept-in-None.field-0.0) refl c.in_err-kept-in-None.ensures in
+    let p = err_from_is_err_and c.from_residual-in_err-kept-in-None.result
+    c.from_residual-in_err-kept-in-None.ensures.1 in
+    record {
+      exact = subst (λ (r : Result Kept NoMemory). Called doc x (x ∷ []) c.args.self.now.asked
+          c.build.new.cells.asked r) (sym p.1)
+          (called_stopped doc x c.args.self.now.asked start c.build.new.cells.asked
+          c.in_err-kept-in-None.field-0.0 p.0 first made);
+    }
+
+pub keep_lazy-requires-clause-closed : goal.keep_lazy-requires-clause-closed
+keep_lazy-requires-clause-closed g c =
+    let doc = g.D.OfDoc.document in
+    let x = lazy c.args.inst c.args.slot c.args.place.now in
+    let made = c.requires.gives c.asked_lazy.new.self c.build.new.cells
+    (Ok c.in_ok-kept-in-None.kept) refl c.in_ok-kept-in-None.ensures in
+    subst (λ (p : Place). (y : Asked) → Contains (asked_by doc (lazy c.args.inst c.args.slot p)) y
+    → Contains c.build.new.cells.asked y) (sym c.in_ok-copy.ensures.exact)
+    (made_closed doc x c.asked_lazy.new.self.asked c.build.new.cells.asked
+    c.in_ok-kept-in-None.kept made)
+
+pub returns-in_err-keep_lazy-in-None : goal.returns-in_err-keep_lazy-in-None
+returns-in_err-keep_lazy-in-None g c =
+    let doc = g.D.OfDoc.document in
+    let x = lazy c.args.inst c.args.slot c.args.place.now in
+    let start = c.asked_lazy.new.self.asked in
+    let at = c.in_ok-copy.ensures.exact in
+    let looked = subst (λ (p : Place). LooksUp doc (lazy c.args.inst c.args.slot p)
+    (names c.args.self.now) c.args.self.now.asked start (Ok c.in_ok-kept.field-0)) at
+    c.in_ok-kept.ensures.exact in
+    let first = looked_none doc x (names c.args.self.now) c.args.self.now.asked start
+    c.in_ok-kept.field-0 c.in-None.is
+    looked in
+    let made = c.requires.gives c.asked_lazy.new.self c.build.new.cells
+    (Ok c.in_ok-kept-in-None.kept) refl c.in_ok-kept-in-None.ensures in
+    let p = err_from_is_err_and c.from_residual-in_err-keep_lazy-in-None.result
+    c.from_residual-in_err-keep_lazy-in-None.ensures.1 in
+    record {
+      exact = subst (λ (r : Result Kept NoMemory). Called doc x (x ∷ []) c.args.self.now.asked
+          c.keep_lazy.new.self.asked r) (sym p.1)
+          (called_in_vain doc x c.args.self.now.asked start c.build.new.cells.asked
+          c.keep_lazy.new.self.asked c.in_ok-kept-in-None.kept p.0 first made
+          c.in_err-keep_lazy-in-None.ensures.kept);
+    }
+
+pub returns-in-Some : goal.returns-in-Some
+returns-in-Some g c =
+    let doc = g.D.OfDoc.document in
+    let x = lazy c.args.inst c.args.slot c.args.place.now in
+    let looked = subst (λ (p : Place). LooksUp doc (lazy c.args.inst c.args.slot p)
+    (names c.args.self.now) c.args.self.now.asked c.asked_lazy.new.self.asked (Ok
+    c.in_ok-kept.field-0))
+    c.in_ok-copy.ensures.exact c.in_ok-kept.ensures.exact in
+    let h = looked_some doc x (names c.args.self.now) c.args.self.now.asked
+    c.asked_lazy.new.self.asked c.in_ok-kept.field-0
+    c.in-Some.kept c.in-Some.is looked in
+    record {
+      exact = called_again doc x c.args.self.now.asked c.asked_lazy.new.self.asked c.in-Some.kept
+          h.0 h.1;
+    }
+
+pub returns-in_ok-keep_lazy-in-None : goal.returns-in_ok-keep_lazy-in-None
+returns-in_ok-keep_lazy-in-None g c =
+    let doc = g.D.OfDoc.document in
+    let x = lazy c.args.inst c.args.slot c.args.place.now in
+    let start = c.asked_lazy.new.self.asked in
+    let at = c.in_ok-copy.ensures.exact in
+    let looked = subst (λ (p : Place). LooksUp doc (lazy c.args.inst c.args.slot p)
+    (names c.args.self.now) c.args.self.now.asked start (Ok c.in_ok-kept.field-0)) at
+    c.in_ok-kept.ensures.exact in
+    let first = looked_none doc x (names c.args.self.now) c.args.self.now.asked start
+    c.in_ok-kept.field-0 c.in-None.is
+    looked in
+    let made = c.requires.gives c.asked_lazy.new.self c.build.new.cells
+    (Ok c.in_ok-kept-in-None.kept) refl c.in_ok-kept-in-None.ensures in
+    record {
+      exact = called_made doc x (lazy c.args.inst c.args.slot c.in_ok-copy.field-0)
+          c.args.self.now.asked start c.build.new.cells.asked
+          c.keep_lazy.new.self.asked c.in_ok-kept-in-None.kept first made
+          c.in_ok-keep_lazy-in-None.ensures.exact (ap (lazy c.args.inst c.args.slot) at);
+    }

@@ -1,0 +1,6 @@
+use Rattle.std.proofs.Common.{◌≡◌, ◌++◌, map, drop}
+use Rattle.dg_tree.proofs.world.classes.Given as goal
+
+abbrev pub invariant-loop-inst : goal.invariant-loop-inst
+invariant-loop-inst l =
+    l.list ++ map (λ x. x.class) (drop l.inst-index l.insts) ≡ map (λ x. x.class) l.insts
