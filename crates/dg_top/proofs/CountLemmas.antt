@@ -1,8 +1,7 @@
 -- Lists of cells in which each stands once: where two have the same members, they are equally long.
-use Rattle.std.proofs.Common.{◌≡◌, inl, inr, ℕ, ◌≤◌, ◌==◌, Bool, true, false, List, [], ◌∷◌, ◌++◌, length, map, filter, filter_map, flat_map, Contains, Option, Some, None, refl, sym, ap, subst, ◌∙◌, arith}
+use Rattle.std.proofs.Common.{◌≡◌, inl, inr, ℕ, ◌≤◌, ◌==◌, Bool, true, false, List, [], ◌∷◌, ◌++◌, length, map, filter, filter_map, Contains, Some, None, refl, sym, ap, subst, ◌∙◌, arith}
 use Rattle.std.specs.Prelude.{not}
 use Rattle.std.specs.Cmp.{IsEquivalence}
-use Rattle.std.specs.Set.{is_member}
 use Rattle.std.proofs.lemmas.Bool.{eqb-true, eq-eqb, false≢true}
 use Rattle.std.proofs.lemmas.List.{length-map}
 use Rattle.std.proofs.lemmas.List.Elements.{Contains-append_cases}
@@ -119,8 +118,11 @@ cells_of_stored (d ∷ cs) rest c h =
 once_stored : (cs : List CellKept) (rest : List (Asked × Kept))
     → IsEachOnce (map first_part (map of_cell cs ++ rest)) → Once (map name_of cs)
 once_stored [] rest once = tt
-once_stored (c ∷ cs) rest once = (λ h. once.0 (cells_of_stored cs rest (name_of c) h), once_stored
-    cs rest once.1)
+once_stored (c ∷ cs) rest once = (
+  λ h. once.0 (cells_of_stored cs rest (name_of c) h),
+  once_stored
+      cs rest once.1,
+)
 
 pub once_in_tree : (t : Stored) → IsEachOnce (names t) → Once (map name_of t.cells)
 once_in_tree t once = once_stored t.cells (map of_lazy t.lazies) once
@@ -160,11 +162,11 @@ same_count t used once only all =
     let xs : List CellName = map name_of t.cells in
     let ys : List CellName = each_once (filter_map as_cell used) in
     let more : length xs ≤ length ys = fewer same_cell cells_tell xs ys (once_in_tree t once) (λ c
-        h. in_each_once (filter_map as_cell used) c (in_filter_map as_cell used (cell c.inst c.slot)
-        c (only (cell c.inst c.slot) (in_names t c h)) refl)) in
+    h. in_each_once (filter_map as_cell used) c (in_filter_map as_cell used (cell c.inst c.slot)
+    c (only (cell c.inst c.slot) (in_names t c h)) refl)) in
     let less : length ys ≤ length xs = fewer same_cell cells_tell ys xs (once_each (filter_map
-        as_cell used)) (λ c h. stored c (out_filter_map as_cell used c (out_each_once (filter_map
-        as_cell used) c h))) in
+    as_cell used)) (λ c h. stored c (out_filter_map as_cell used c (out_each_once (filter_map
+    as_cell used) c h))) in
     omega (arith, length-map t.cells name_of, more, less)
   where
     of_name : (c : CellName) (x : Asked) → as_cell x ≡ Some c → x ≡ cell c.inst c.slot
@@ -176,5 +178,5 @@ same_count t used once only all =
         → Contains (map name_of t.cells) c
     stored c f =
         let o = out_names t c.inst c.slot (all (cell c.inst c.slot) (subst (Contains used) (of_name
-            c f.0 f.2) f.1)) in
+        c f.0 f.2) f.1)) in
         subst (Contains (map name_of t.cells)) o.2 (in_map name_of t.cells o.0 o.1)

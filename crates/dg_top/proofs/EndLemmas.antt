@@ -1,5 +1,5 @@
 -- Ends of runs.
-use Rattle.std.proofs.Common.{◌≡◌, ◌<◌, ℕ, List, [], ◌++◌, length, take, drop, Option, Result, Ok, Err, refl, sym, ap, subst, ◌∙◌, arith}
+use Rattle.std.proofs.Common.{◌≡◌, ◌<◌, ℕ, [], length, take, drop, Option, Result, Ok, Err, refl, sym, subst, arith}
 use Rattle.std.specs.Prelude.{IfOk, IfErr}
 use Rattle.std.specs.Result.{IsErrAnd}
 use Rattle.std.proofs.lemmas.Result.{err_from_is_err_and}
@@ -10,7 +10,7 @@ use Rattle.dg_types.specs.declared.memory.NoMemory.{NoMemory as no_memory}
 use Rattle.dg_lex.specs.Bytes.{Bytes}
 use Rattle.dg_top.specs.declared.answer.Answer.{Answer}
 use Rattle.dg_top.specs.declared.status.Status.{Status}
-use Rattle.dg_top.specs.declared.status.Status.TheVariants.{Ran, Refused, WriteFault, NoMemory, TooLong}
+use Rattle.dg_top.specs.declared.status.Status.TheVariants.{Ran, WriteFault, NoMemory}
 use Rattle.dg_top.specs.declared.stream_fault.StreamFault.{StreamFault}
 use Rattle.dg_top.specs.declared.stream_fault.StreamFault.TheVariants as fault
 use Rattle.dg_top.specs.Ends.{WritesFrontOf, Ends, all_written, sink_failed, memory_lacked, nothing_written, IsMade, StopsEarly}
@@ -63,8 +63,10 @@ front_within text n old new less written = record {
 module _ (made : Result Answer no_memory) (a : Answer) (is : made ≡ Ok a) (old new : Option Bytes)
     (faults new_faults : ℕ) where
   made_is : IsMade made a.status a.text.items
-  made_is = subst (λ (m : Result Answer no_memory). IsMade m a.status a.text.items) (sym is) (refl,
-      refl)
+  made_is = subst (λ (m : Result Answer no_memory). IsMade m a.status a.text.items) (sym is) (
+    refl,
+    refl,
+  )
 
   pub made_written : Appends old new a.text.items → new_faults ≡ faults
       → Ends (IsMade made) old new faults new_faults a.status
@@ -97,7 +99,7 @@ module _ {T : Type 0} (text : Bytes) (old new : Option Bytes) (faults new_faults
   stops e cause is =
       let p = err_from_is_err_and r is in
       subst (λ (x : Result T StreamFault). IfErr x (StopsEarly text old new faults new_faults)) (sym
-          p.1) (subst (StopsEarly text old new faults new_faults) (sym p.2) cause)
+      p.1) (subst (StopsEarly text old new faults new_faults) (sym p.2) cause)
 
   pub stops_lacking : new_faults ≡ faults → IsErrAnd r (λ f. f ≡ fault.NoMemory)
       → IfErr r (StopsEarly text old new faults new_faults)
@@ -109,5 +111,11 @@ module _ {T : Type 0} (text : Bytes) (old new : Option Bytes) (faults new_faults
 
 -- nothing was written of a text that has a byte
 pub none_of : (text : Bytes) (old : Option Bytes) → 0 < length text → WritesFrontOf text old old
-none_of text old some = record { front = []; rest = text; is_text = refl; some = some; written =
-    appends_none old }
+none_of text old some = record {
+  front = [];
+  rest = text;
+  is_text = refl;
+  some = some;
+  written =
+      appends_none old;
+}

@@ -1,6 +1,5 @@
 -- A tree that stores what an ask uses holds the content of each cell to which the reply comes.
-use Rattle.std.proofs.Common.{◌≡◌, ◌⊎◌, inl, inr, ℕ, suc, ◌==◌, Bool, true, false, List, [], ◌∷◌, ◌++◌, map, filter_map, Contains, Option, Some, None, option_map, Result, Ok, Err, refl, sym, ap, subst, ◌∙◌}
-use Rattle.std.specs.Prelude.{find, IsSome}
+use Rattle.std.proofs.Common.{◌≡◌, ◌⊎◌, inl, inr, ℕ, ◌==◌, Bool, true, false, List, [], ◌∷◌, ◌++◌, map, filter_map, Contains, Option, Some, None, option_map, Ok, Err, refl, sym, ap, subst, ◌∙◌}
 use Rattle.std.specs.Option.{option_map_or}
 use Rattle.std.proofs.lemmas.Bool.{eqb-true, eq-eqb}
 use Rattle.std.proofs.lemmas.List.Elements.{filter_map-append, Contains-append_left}
@@ -10,9 +9,8 @@ use Rattle.dg_decl.specs.Diagnostics.{IsAccepted}
 use Rattle.dg_decl.specs.Walks.{root, step}
 use Rattle.dg_decl.proofs.NodeEquality.{first_so, second_so, both_so}
 use Rattle.dg_decl.proofs.NodeWalks.{in_rest}
-use Rattle.dg_decl.proofs.MemberLemmas.{none_in, in_front, first_or_rest, in_map, out_map, out_filter_map}
+use Rattle.dg_decl.proofs.MemberLemmas.{none_in, in_front, first_or_rest, in_map, out_filter_map}
 use Rattle.dg_slots.specs.declared.session.Ask.{Ask}
-use Rattle.dg_value.specs.declared.value.Failure.{Failure}
 use Rattle.dg_value.specs.declared.value.Kept.{Kept, fold-Kept}
 use Rattle.dg_value.specs.declared.value.Kept.TheVariants as kept
 use Rattle.dg_value.specs.declared.value.Kept.TheOpen.{Kept-F, Value-F}
@@ -29,10 +27,9 @@ use Rattle.dg_eval.specs.Named.{Named, held_cell, made_lazy, way_to, entries_joi
 use Rattle.dg_eval.specs.Meaning.{content_of}
 use Rattle.dg_eval.specs.Asks.{answer_to, numbered_asks, used_by_ask}
 use Rattle.dg_eval.specs.Report.{value_of_run}
-use Rattle.dg_promises.specs.Replies.{UsesHeld, HoldsUsed, RepliesAreWhole, HeldAreUsed}
-use Rattle.dg_report.specs.Held.{Cell, Content, joined, cells_at, kept_cells_at, cells_in, cells_behind, ComesTo, HoldsAll, HoldsReply}
-use Rattle.dg_requests.specs.Scopes.{IsContent}
-use Rattle.dg_tree.specs.Stores.{LazyKept, Stored, as_cell, as_lazy, contents, names, IsSound}
+use Rattle.dg_promises.specs.Replies.{HoldsUsed, RepliesAreWhole, HeldAreUsed}
+use Rattle.dg_report.specs.Held.{Cell, joined, cells_at, kept_cells_at, cells_in, ComesTo, HoldsReply}
+use Rattle.dg_tree.specs.Stores.{Stored, as_cell, as_lazy, contents, names, IsSound}
 use Rattle.dg_top.proofs.CountLemmas.{out_names}
 
 -- ---- the cells in a value are those that it names as held
@@ -97,7 +94,7 @@ members_named [] = refl
 members_named (p ∷ ps) =
     (λ i. p.1 i ++ members_named ps i)
     ∙ sym (filter_map-append as_held (names_in p.0) (named.joined (map names_in (map (λ (q : Part).
-        q.0) ps))))
+    q.0) ps))))
 
 abbrev bare_entries : List (MapKeyVal × Part) → List (MapKeyVal × Value)
 bare_entries es = map (λ e. (e.0, e.1.0)) es
@@ -156,7 +153,7 @@ in_names_held : (v : Value) (c : Cell) → Contains (cells_in v) c
     → Contains (names_in v) (held_cell c.0 c.1)
 in_names_held v c h =
     let o = out_filter_map as_held (names_in v) c (subst (λ (cs : List Cell). Contains cs c)
-        (cells_named v) h) in
+    (cells_named v) h) in
     subst (Contains (names_in v)) (held_is o.0 c.0 c.1 o.2) o.1
 
 -- ---- an ask uses each cell to which its reply comes
@@ -224,12 +221,12 @@ unfolding Found
 stored_content doc t i k w sound at is =
     let o = out_names t i k at in
     let f = found t.cells o.0 i k o.1 (both_so (o.0.0 == i) (o.0.1 == k) (eq-eqb o.0.0 i (ap (λ n.
-        n.inst) o.2)) (eq-eqb o.0.1 k (ap (λ n. n.slot) o.2))) in
+    n.inst) o.2)) (eq-eqb o.0.1 k (ap (λ n. n.slot) o.2))) in
     let there : Contains (contents t) (cell i k, f.0.2) = subst (Contains (contents t)) f.2
-        (Contains-append_left (map as_cell t.cells) (map as_lazy t.lazies) (as_cell f.0) (in_map
-        as_cell t.cells f.0 f.1)) in
+    (Contains-append_left (map as_cell t.cells) (map as_lazy t.lazies) (as_cell f.0) (in_map
+    as_cell t.cells f.0 f.1)) in
     f.3 ∙ ap (λ (x : Kept). Some x) (kept_is (content_of doc i k) w f.0.2 is (sound.content (cell i
-        k) f.0.2 there))
+    k) f.0.2 there))
 
 pub holds_reply : (doc : Doc) (t : Stored) (p : ℕ × Ask) (r : Reply) → IsAccepted doc
     → RepliesAreWhole → HeldAreUsed → IsSound doc t → Contains (numbered_asks doc) p
@@ -237,8 +234,10 @@ pub holds_reply : (doc : Doc) (t : Stored) (p : ℕ × Ask) (r : Reply) → IsAc
     → Contains (names t) x) → HoldsReply doc (content_in t.cells) r
 holds_reply doc t p (reply.Value v) accepted wholes held sound at answer stored = (
   wholes doc accepted p.0 p.1 at v answer,
-  record { held = λ i k w comes is. stored_content doc t i k w sound (stored (cell i k) (comes_used
-      doc p v answer (held doc accepted p at) (i, k) comes)) is },
+  record {
+    held = λ i k w comes is. stored_content doc t i k w sound (stored (cell i k) (comes_used
+        doc p v answer (held doc accepted p at) (i, k) comes)) is;
+  },
 )
 holds_reply doc t p (reply.Failed f) accepted wholes held sound at answer stored = tt
 holds_reply doc t p reply.Absent accepted wholes held sound at answer stored = tt

@@ -12,13 +12,13 @@ use Rattle.dg_lex.specs.Bytes.{Bytes, line_end}
 use Rattle.dg_decl.specs.declared.document.Doc.{Doc}
 use Rattle.dg_decl.specs.declared.item.Item.{Item}
 use Rattle.dg_decl.specs.Bounds.{IsBounded}
-use Rattle.dg_decl.specs.Document.{Statement, statements, statements_from, open_behind}
+use Rattle.dg_decl.specs.Document.{statements, statements_from, open_behind}
 use Rattle.dg_slots.specs.declared.session.Ask.{Ask}
 use Rattle.dg_slots.specs.Sessions.{ask_of, asks_of}
 use Rattle.dg_value.specs.declared.place.Place.{Place}
 use Rattle.dg_value.specs.declared.value.Reply.{Reply}
 use Rattle.dg_eval.specs.Asks.{answer_to, numbered_asks, cells}
-use Rattle.dg_eval.specs.Report.{Printed, printed, reply_line, ask_line, lines_of, cells_line, report}
+use Rattle.dg_eval.specs.Report.{reply_line, ask_line, lines_of, cells_line, report}
 use Rattle.dg_top.specs.Ends.{WritesFrontOf}
 use Rattle.dg_top.specs.Progress.{first_asks, first_lines, AreLinesBetween}
 use Rattle.dg_top.proofs.StreamLemmas.{appends_none, appends_then}
@@ -27,7 +27,7 @@ use Rattle.dg_top.proofs.StreamLemmas.{appends_none, appends_then}
 
 lines_append : (doc : Doc) (xs ys : List (ℕ × Ask)) (seen : List Place)
     → ((lines_of doc (xs ++ ys) seen).text ≡ (lines_of doc xs seen).text ++ (lines_of doc ys
-        (lines_of doc xs seen).seen).text)
+    (lines_of doc xs seen).seen).text)
     × ((lines_of doc (xs ++ ys) seen).seen ≡ (lines_of doc ys (lines_of doc xs seen).seen).seen)
 lines_append doc [] ys seen = (refl, refl)
 lines_append doc (x ∷ xs) ys seen =
@@ -80,12 +80,14 @@ module _ (doc : Doc) (n : ℕ) (a : Ask) (is : slice_get (asks_of doc) n ≡ Som
   pub one_more : first_asks doc (suc n) ≡ first_asks doc n ++ (suc n, a) ∷ []
   one_more =
       take-suc (numbered_asks doc) n (suc n, a) (slice_get_within (numbered_asks doc) n (suc n, a)
-          numbered)
+      numbered)
       ∙ ap (λ (p : ℕ × Ask). first_asks doc n ++ p ∷ []) (get_or_from_slice_get (numbered_asks doc)
-          n (suc n, a) (suc n, a) numbered)
+      n (suc n, a) (suc n, a) numbered)
 
-  next_lines : (first_lines doc (suc n)).text ≡ (first_lines doc n).text ++ (lines_of doc ((suc n,
-      a) ∷ []) (first_lines doc n).seen).text
+  next_lines : (first_lines doc (suc n)).text ≡ (first_lines doc n).text ++ (lines_of doc ((
+    suc n,
+    a,
+  ) ∷ []) (first_lines doc n).seen).text
   unfolding first_lines
   next_lines = rw one_more (lines_append doc (first_asks doc n) ((suc n, a) ∷ []) []).0
 
@@ -99,7 +101,7 @@ module _ (doc : Doc) (n : ℕ) (a : Ask) (is : slice_get (asks_of doc) n ≡ Som
       → AreLinesBetween doc n (suc n) line
   line_more r line answer text =
       next_lines ∙ ap (λ (t : Bytes). (first_lines doc n).text ++ t) ((one_line doc (suc n, a) r
-          (first_lines doc n).seen answer).0 ∙ sym text)
+      (first_lines doc n).seen answer).0 ∙ sym text)
 
   pub seen_more : (r : Reply) (seen : List Place) → answer_to doc (suc n) a ≡ Some r
       → seen ≡ (reply_line doc (suc n) r (first_lines doc n).seen).seen
@@ -125,14 +127,22 @@ ends_some : (front : Bytes) (b : ℕ) → 0 < length (front ++ b ∷ [])
 ends_some front b = omega (arith, length-append front (b ∷ []))
 
 some_count : (n : ℕ) → 0 < length (cells_line n)
-some_count n = omega (arith, length-append (codes "cells ") (decimal n ++ line_end ∷ []), ends_some
-    (decimal n) line_end)
+some_count n = omega (
+  arith,
+  length-append (codes "cells ") (decimal n ++ line_end ∷ []),
+  ends_some
+      (decimal n) line_end,
+)
 
 pub all_asks : (doc : Doc) → first_asks doc (length (asks_of doc)) ≡ numbered_asks doc
 all_asks doc =
     take_all (length (asks_of doc)) (numbered_asks doc)
-    (omega (arith, length-map (enumerate_from 0 (asks_of doc)) with_number, length-enumerate_from 0
-        (asks_of doc)))
+    (omega (
+      arith,
+      length-map (enumerate_from 0 (asks_of doc)) with_number,
+      length-enumerate_from 0
+          (asks_of doc),
+    ))
 
 pub report_is : (doc : Doc) → report doc ≡ (first_lines doc (length (asks_of doc))).text ++
     cells_line (length (cells doc))
@@ -152,17 +162,21 @@ report_parts doc n =
     let front : Bytes = (first_lines doc n).text in
     let back : Bytes = (lines_of doc (drop n (numbered_asks doc)) (first_lines doc n).seen).text in
     ap (λ (xs : List (ℕ × Ask)). (lines_of doc xs []).text ++ count) (sym (take-append-drop n
-        (numbered_asks doc)))
+    (numbered_asks doc)))
     ∙ ap (λ (t : Bytes). t ++ count) (lines_append doc (first_asks doc n) (drop n (numbered_asks
-        doc)) []).0
+    doc)) []).0
     ∙ append_assoc front back count
 
 some_behind : (doc : Doc) (n : ℕ) → 0 < length (rest_behind doc n)
 unfolding rest_behind
 some_behind doc n =
     let back : Bytes = (lines_of doc (drop n (numbered_asks doc)) (first_lines doc n).seen).text in
-    omega (arith, length-append back (cells_line (length (cells doc))), some_count (length (cells
-        doc)))
+    omega (
+      arith,
+      length-append back (cells_line (length (cells doc))),
+      some_count (length (cells
+          doc)),
+    )
 
 -- ---- fronts of the report
 
@@ -178,8 +192,13 @@ front_of_report doc n old new written = record {
 
 -- nothing of it
 pub some_report : (doc : Doc) → 0 < length (report doc)
-some_report doc = omega (arith, ap length (report_is doc), length-append (first_lines doc (length
-    (asks_of doc))).text (cells_line (length (cells doc))), some_count (length (cells doc)))
+some_report doc = omega (
+  arith,
+  ap length (report_is doc),
+  length-append (first_lines doc (length
+      (asks_of doc))).text (cells_line (length (cells doc))),
+  some_count (length (cells doc)),
+)
 
 -- a front of the lines that come next
 pub front_of_lines : (doc : Doc) (from to k : ℕ) (text : Bytes) (old middle new : Option Bytes)
@@ -196,7 +215,7 @@ front_of_lines doc from to k text old middle new lines less first written =
           ∙ append_assoc start text (rest_behind doc to)
           ∙ ap (λ (t : Bytes). start ++ (t ++ rest_behind doc to)) (sym (take-append-drop k text))
           ∙ ap (λ (t : Bytes). start ++ t) (append_assoc (take k text) (drop k text) (rest_behind
-              doc to))
+          doc to))
           ∙ sym (append_assoc start (take k text) more);
       some = omega (arith, length-append (drop k text) (rest_behind doc to), some_behind doc to);
       written = appends_then old middle new start (take k text) first written;
@@ -210,8 +229,8 @@ pub front_of_count : (doc : Doc) (n k : ℕ) (line : Bytes) (old middle new : Op
 front_of_count doc n k line old middle new is count less first written =
     let start : Bytes = (first_lines doc n).text in
     let whole : report doc ≡ start ++ line = report_is doc
-        ∙ ap (λ (m : ℕ). (first_lines doc m).text ++ cells_line (length (cells doc))) (sym is)
-        ∙ ap (λ (t : Bytes). start ++ t) (sym count) in
+    ∙ ap (λ (m : ℕ). (first_lines doc m).text ++ cells_line (length (cells doc))) (sym is)
+    ∙ ap (λ (t : Bytes). start ++ t) (sym count) in
     record {
       front = start ++ take k line;
       rest = drop k line;
@@ -228,8 +247,8 @@ pub whole_report : (doc : Doc) (n : ℕ) (line : Bytes) (old middle new : Option
 whole_report doc n line old middle new is count first written =
     let start : Bytes = (first_lines doc n).text in
     let whole : report doc ≡ start ++ line = report_is doc
-        ∙ ap (λ (m : ℕ). (first_lines doc m).text ++ cells_line (length (cells doc))) (sym is)
-        ∙ ap (λ (t : Bytes). start ++ t) (sym count) in
+    ∙ ap (λ (m : ℕ). (first_lines doc m).text ++ cells_line (length (cells doc))) (sym is)
+    ∙ ap (λ (t : Bytes). start ++ t) (sym count) in
     subst (Appends old new) (sym whole) (appends_then old middle new start line first written)
 
 pub lines_written : (doc : Doc) (from to : ℕ) (text : Bytes) (old middle new : Option Bytes)
@@ -237,7 +256,7 @@ pub lines_written : (doc : Doc) (from to : ℕ) (text : Bytes) (old middle new :
     → Appends middle new text → Appends old new (first_lines doc to).text
 lines_written doc from to text old middle new lines first written =
     subst (Appends old new) (sym lines) (appends_then old middle new (first_lines doc from).text
-        text first written)
+    text first written)
 
 pub none_written : (doc : Doc) (old : Option Bytes) → Appends old old (first_lines doc 0).text
 unfolding first_lines
@@ -262,5 +281,10 @@ given_count {A} {B} f (x ∷ xs) = of_given (f x) (given_count f xs)
 
 pub asks_are_few : (doc : Doc) → IsBounded doc → length (asks_of doc) < 2 ^ 31
 unfolding asks_of statements
-asks_are_few doc bounded = omega (arith, given_count (ask_of doc) (statements doc), statement_count
-    doc 0 None doc.items, bounded.items)
+asks_are_few doc bounded = omega (
+  arith,
+  given_count (ask_of doc) (statements doc),
+  statement_count
+      doc 0 None doc.items,
+  bounded.items,
+)

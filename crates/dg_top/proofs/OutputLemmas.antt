@@ -2,7 +2,6 @@
 use Rattle.std.proofs.Common.{◌≡◌, ◌⊎◌, inl, inr, ◌<◌, ◌≤◌, Bool, true, false, List, [], ◌∷◌, ◌++◌, length, refl, sym, ap, subst, ◌∙◌, arith}
 use Rattle.std.specs.Prelude.{◌≢◌, codes, decimal}
 use Rattle.std.specs.Bool.{Decides}
-use Rattle.std.specs.List.{flat_map}
 use Rattle.std.specs.Str.{bytes_eq}
 use Rattle.std.proofs.lemmas.Bool.{cases_lt, false≢true}
 use Rattle.std.proofs.lemmas.List.{length-append}
@@ -37,8 +36,11 @@ only_answer command bytes s t x y (too_long over) (bad_line n within first) = ab
 only_answer command bytes s t x y (too_long over) (refused within refuses) = absurd (omega arith)
 only_answer command bytes s t x y (too_long over) (ran within gives) = absurd (omega arith)
 only_answer command bytes s t x y (bad_line n within first) (too_long over) = absurd (omega arith)
-only_answer command bytes s t x y (bad_line m within first) (bad_line n less other) = (refl, ap
-    bad_line_text (one_line bytes m n first other))
+only_answer command bytes s t x y (bad_line m within first) (bad_line n less other) = (
+  refl,
+  ap
+      bad_line_text (one_line bytes m n first other),
+)
 only_answer command bytes s t x y (bad_line n within first) (refused {text = z} less refuses) =
     absurd (bad_isnt_refused command bytes n z first refuses)
 only_answer command bytes s t x y (bad_line n within first) (ran {text = z} less gives) = absurd
@@ -55,63 +57,136 @@ only_answer command bytes s t x y (ran {text = z} within gives) (bad_line n less
     (bad_isnt_given command bytes n z first gives)
 only_answer command bytes s t x y (ran {text = z} within gives) (refused {text = w} less refuses) =
     absurd (refused_isnt_given command bytes w z refuses gives)
-only_answer command bytes s t x y (ran {text = z} within gives) (ran {text = w} less other) = (refl,
-    one_given command bytes z w gives other)
+only_answer command bytes s t x y (ran {text = z} within gives) (ran {text = w} less other) = (
+  refl,
+  one_given command bytes z w gives other,
+)
 
 abbrev HasAnswer : Command → Bytes → Type 0
 HasAnswer command bytes = (status : Status) × (text : Bytes) × IsAnswer command bytes status text
 
 run_read : (bytes : Bytes) (doc : Doc) → length bytes ≤ document_limit → Reads bytes doc
     → (vs : List Violation) → diagnostics doc ≡ vs → HasAnswer Run bytes
-run_read bytes doc within reads [] is = (Ran, report doc, ran within record { doc = doc; reads =
-    reads; accepted = is; is_text = refl })
-run_read bytes doc within reads (v ∷ vs) is =
-    (Refused, lines_of (diagnostics doc), refused within record { doc = doc; reads = reads; broken =
-        λ none. absurd (let e : v ∷ vs ≡ [] = sym is ∙ none in cc); is_text = refl })
+run_read bytes doc within reads [] is = (
+  Ran,
+  report doc,
+  ran within record {
+    doc = doc;
+    reads =
+        reads;
+    accepted = is;
+    is_text = refl;
+  },
+)
+run_read bytes doc within reads (v ∷ vs) is = (
+  Refused,
+  lines_of (diagnostics doc),
+  refused within record {
+    doc = doc;
+    reads = reads;
+    broken =
+        λ none. absurd (let e : v ∷ vs ≡ [] = sym is ∙ none in cc);
+    is_text = refl;
+  },
+)
 
 run_within : (bytes : Bytes) → length bytes ≤ document_limit → HasReading bytes
     → HasAnswer Run bytes
 run_within bytes within (is_read doc reads only none) = run_read bytes doc within reads (diagnostics
     doc) refl
-run_within bytes within (is_bad line first only none) = (BadLine, bad_line_text line, bad_line line
-    within first)
+run_within bytes within (is_bad line first only none) = (
+  BadLine,
+  bad_line_text line,
+  bad_line line
+      within first,
+)
 
 print_within : (bytes : Bytes) → length bytes ≤ document_limit → HasReading bytes
     → HasAnswer Print bytes
-print_within bytes within (is_read doc reads only none) = (Ran, canonical_text doc, ran within
-    record { doc = doc; reads = reads; is_text = refl })
-print_within bytes within (is_bad line first only none) = (BadLine, bad_line_text line, bad_line
-    line within first)
+print_within bytes within (is_read doc reads only none) = (
+  Ran,
+  canonical_text doc,
+  ran within
+      record { doc = doc; reads = reads; is_text = refl },
+)
+print_within bytes within (is_bad line first only none) = (
+  BadLine,
+  bad_line_text line,
+  bad_line
+      line within first,
+)
 
 check_read : (bytes : Bytes) (doc : Doc) → length bytes ≤ document_limit → Reads bytes doc
     → (vs : List Violation) → diagnostics doc ≡ vs → HasAnswer Check bytes
-check_read bytes doc within reads [] is = (Ran, accepted_text, ran within record { doc = doc; reads
-    = reads; accepted = is; is_text = refl })
-check_read bytes doc within reads (v ∷ vs) is =
-    (Refused, lines_of (diagnostics doc), refused within record { doc = doc; reads = reads; broken =
-        λ none. absurd (let e : v ∷ vs ≡ [] = sym is ∙ none in cc); is_text = refl })
+check_read bytes doc within reads [] is = (
+  Ran,
+  accepted_text,
+  ran within record {
+    doc = doc;
+    reads
+        = reads;
+    accepted = is;
+    is_text = refl;
+  },
+)
+check_read bytes doc within reads (v ∷ vs) is = (
+  Refused,
+  lines_of (diagnostics doc),
+  refused within record {
+    doc = doc;
+    reads = reads;
+    broken =
+        λ none. absurd (let e : v ∷ vs ≡ [] = sym is ∙ none in cc);
+    is_text = refl;
+  },
+)
 
 check_within : (bytes : Bytes) → length bytes ≤ document_limit → HasReading bytes
     → HasAnswer Check bytes
 check_within bytes within (is_read doc reads only none) = check_read bytes doc within reads
     (diagnostics doc) refl
-check_within bytes within (is_bad line first only none) = (BadLine, bad_line_text line, bad_line
-    line within first)
+check_within bytes within (is_bad line first only none) = (
+  BadLine,
+  bad_line_text line,
+  bad_line
+      line within first,
+)
 
 plan_read : (bytes : Bytes) (doc : Doc) → length bytes ≤ document_limit → Reads bytes doc
     → (vs : List Violation) → diagnostics doc ≡ vs → HasAnswer Plan bytes
-plan_read bytes doc within reads [] is = (Ran, plan_lines doc, ran within record { doc = doc; reads
-    = reads; accepted = is; is_text = refl })
-plan_read bytes doc within reads (v ∷ vs) is =
-    (Refused, lines_of (diagnostics doc), refused within record { doc = doc; reads = reads; broken =
-        λ none. absurd (let e : v ∷ vs ≡ [] = sym is ∙ none in cc); is_text = refl })
+plan_read bytes doc within reads [] is = (
+  Ran,
+  plan_lines doc,
+  ran within record {
+    doc = doc;
+    reads
+        = reads;
+    accepted = is;
+    is_text = refl;
+  },
+)
+plan_read bytes doc within reads (v ∷ vs) is = (
+  Refused,
+  lines_of (diagnostics doc),
+  refused within record {
+    doc = doc;
+    reads = reads;
+    broken =
+        λ none. absurd (let e : v ∷ vs ≡ [] = sym is ∙ none in cc);
+    is_text = refl;
+  },
+)
 
 plan_within : (bytes : Bytes) → length bytes ≤ document_limit → HasReading bytes
     → HasAnswer Plan bytes
 plan_within bytes within (is_read doc reads only none) = plan_read bytes doc within reads
     (diagnostics doc) refl
-plan_within bytes within (is_bad line first only none) = (BadLine, bad_line_text line, bad_line line
-    within first)
+plan_within bytes within (is_bad line first only none) = (
+  BadLine,
+  bad_line_text line,
+  bad_line line
+      within first,
+)
 
 answer_within : (command : Command) (bytes : Bytes) → length bytes ≤ document_limit
     → HasAnswer command bytes
@@ -241,7 +316,7 @@ only_output p words bytes s t x y (answered c asks answer) (bad_words none) = ab
 only_output p words bytes s t x y (answered {status = q} {text = z} c asks answer) (answered {status
     = r} {text = w} d also other) =
     only_answer c bytes q r z w answer (subst (λ (e : Command). IsAnswer e bytes r w) (one_command p
-        words c d asks also) other)
+    words c d asks also) other)
 
 has_output : (p : Program) (words : List Bytes) (bytes : Bytes) (s : Status) (x : Bytes)
     → IsOutput p words bytes s x → HasOneOutput p words bytes

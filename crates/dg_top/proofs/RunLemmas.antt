@@ -161,18 +161,27 @@ module _ (p : Program) (words : List Bytes) (none : HasNoWords p words) where
 
   pub bad_line_no_words : (left old new : Option Bytes)
       → BadLineExactly p words left old new BadWords
-  bad_line_no_words left old new bytes before told known = (λ same. absurd (let e : BadWords ≡
-      BadLine = same in cc), λ line. absurd (none line.0 line.2))
+  bad_line_no_words left old new bytes before told known = (
+    λ same. absurd (let e : BadWords ≡
+        BadLine = same in cc),
+    λ line. absurd (none line.0 line.2),
+  )
 
   pub refused_no_words : (left old new : Option Bytes)
       → RefusedExactly p words left old new BadWords
-  refused_no_words left old new bytes before told known = (λ same. absurd (let e : BadWords ≡
-      Refused = same in cc), λ is. absurd (none is.0 is.2))
+  refused_no_words left old new bytes before told known = (
+    λ same. absurd (let e : BadWords ≡
+        Refused = same in cc),
+    λ is. absurd (none is.0 is.2),
+  )
 
   pub too_long_no_words : (left new_left old new : Option Bytes)
       → TooLongExactly p words left new_left old new BadWords
-  too_long_no_words left new_left old new bytes before told known = (λ same. absurd (let e :
-      BadWords ≡ TooLong = same in cc), λ long. absurd (none long.0 long.1))
+  too_long_no_words left new_left old new bytes before told known = (
+    λ same. absurd (let e :
+        BadWords ≡ TooLong = same in cc),
+    λ long. absurd (none long.0 long.1),
+  )
 
   pub complete_no_words : (left : Option Bytes) (a b c d : ℕ)
       → IsComplete p words left a b c d BadWords
@@ -207,8 +216,14 @@ is_neither status C other (inr memory) same one two = two (sym same ∙ memory)
 nothing_of : (p : Program) (words : List Bytes) (bytes : Bytes) (old new : Option Bytes) (status :
     Status) (text : Bytes) → IsOutput p words bytes status text → 0 < length text
     → Appends old new [] → WritesLess p words bytes old new
-nothing_of p words bytes old new status text output some written = inl (status, text, 0, output,
-    some, written)
+nothing_of p words bytes old new status text output some written = inl (
+  status,
+  text,
+  0,
+  output,
+  some,
+  written,
+)
 
 -- a printed or planned text is empty, or nothing is a front of it
 printed_less : (p : Program) (words : List Bytes) (bytes : Bytes) (old new : Option Bytes) (text :
@@ -217,7 +232,7 @@ printed_less : (p : Program) (words : List Bytes) (bytes : Bytes) (old new : Opt
 printed_less p words bytes old new [] asks answer written = inr (inl (asks, answer, written))
 printed_less p words bytes old new (b ∷ text) asks answer written =
     nothing_of p words bytes old new Ran (b ∷ text) (answered Print asks answer) (omega arith)
-        written
+    written
 
 planned_less : (p : Program) (words : List Bytes) (bytes : Bytes) (old new : Option Bytes) (text :
     Bytes) → AsksFor p words Plan → IsAnswer Plan bytes Ran text → Appends old new []
@@ -225,7 +240,7 @@ planned_less : (p : Program) (words : List Bytes) (bytes : Bytes) (old new : Opt
 planned_less p words bytes old new [] asks answer written = inr (inr (asks, answer, written))
 planned_less p words bytes old new (b ∷ text) asks answer written =
     nothing_of p words bytes old new Ran (b ∷ text) (answered Plan asks answer) (omega arith)
-        written
+    written
 
 given_less : (p : Program) (words : List Bytes) (command : Command) (bytes : Bytes) (old new :
     Option Bytes) (text : Bytes) → AsksFor p words command → length bytes ≤ document_limit
@@ -251,257 +266,281 @@ front_taken text old new f = (
 )
 
 module _ (p : Program) (words : List Bytes) (command : Command) (asks : AsksFor p words command)
-    where
-  output_is : (left new_left : Option Bytes) (status : Status) (text xs : Bytes)
-      → Answers command left new_left status text → left ≡ Some xs → IsOutput p words xs status text
-  output_is left new_left status text xs answers told = answered command asks (answer_is command
-      left new_left status text xs answers told)
+  where
+    output_is : (left new_left : Option Bytes) (status : Status) (text xs : Bytes)
+        → Answers command left new_left status text → left ≡ Some xs → IsOutput p words xs status text
+    output_is left new_left status text xs answers told = answered command asks (answer_is command
+        left new_left status text xs answers told)
 
-  -- the one output
-  same_output : (bytes : Bytes) (s t : Status) (x y : Bytes) → IsOutput p words bytes s x
-      → IsOutput p words bytes t y → (t ≡ s) × (y ≡ x)
-  same_output bytes s t x y one other = only_output p words bytes s t x y one other
+    -- the one output
+    same_output : (bytes : Bytes) (s t : Status) (x y : Bytes) → IsOutput p words bytes s x
+        → IsOutput p words bytes t y → (t ≡ s) × (y ≡ x)
+    same_output bytes s t x y one other = only_output p words bytes s t x y one other
 
-  -- ---- what is written
+    -- ---- what is written
 
-  writes_all : (bytes : Bytes) (new_left old new : Option Bytes) (status : Status) (text : Bytes)
-      → Answers command (Some bytes) new_left status text → Appends old new text
-      → Writes p words (Some bytes) old new status
-  writes_all bytes new_left old new status text answers appended =
-      writes_done p words bytes old new status (answer_done command (Some bytes) new_left status
-          text answers) (text, output_is (Some bytes) new_left status text bytes answers refl,
-          appended)
-
-  writes_front : (bytes : Bytes) (new_left old new : Option Bytes) (status : Status) (text : Bytes)
-      → Answers command (Some bytes) new_left status text → WritesFrontOf text old new
-      → WritesFront p words bytes old new
-  writes_front bytes new_left old new status text answers front =
-      let taken = front_taken text old new front in
-      (status, text, taken.0, output_is (Some bytes) new_left status text bytes answers refl,
-          taken.1, taken.2)
-
-  some_less : (bytes : Bytes) (old new : Option Bytes) (status : Status) (text : Bytes)
-      → IsAnswer command bytes status text → (status ≡ Ran → ⊥) → Appends old new []
-      → WritesLess p words bytes old new
-  some_less bytes old new status text answer isnt written = nothing_of p words bytes old new status
-      text (answered command asks answer) (some_text command bytes status text answer isnt) written
-
-  answer_less : (bytes : Bytes) (old new : Option Bytes) (status : Status) (text : Bytes)
-      → IsAnswer command bytes status text → Appends old new [] → WritesLess p words bytes old new
-  answer_less bytes old new status text (too_long over) written = some_less bytes old new TooLong
-      too_long_text (too_long over) (λ e. absurd cc) written
-  answer_less bytes old new status text (bad_line n within first) written = some_less bytes old new
-      BadLine (bad_line_text n) (bad_line n within first) (λ e. absurd cc) written
-  answer_less bytes old new status text (refused {text = z} within refuses) written = some_less
-      bytes old new Refused z (refused within refuses) (λ e. absurd cc) written
-  answer_less bytes old new status text (ran {text = z} within gives) written = given_less p words
-      command bytes old new z asks within gives written
-
-  less_than_all : (bytes : Bytes) (old new : Option Bytes) → Appends old new []
-      → WritesLess p words bytes old new
-  less_than_all bytes old new written =
-      let one = has_answer command bytes in
-      answer_less bytes old new one.0 one.1 one.2 written
-
-  pub writes_nothing : (left old : Option Bytes) (status : Status) (C : Type 0)
-      → WritesNothing status C → Writes p words left old old status
-  writes_nothing None old status C cause = tt
-  writes_nothing (Some bytes) old status C (inl read) = subst (λ (s : Status). Writes p words (Some
-      bytes) old old s) (sym read.0) (appends_none old)
-  writes_nothing (Some bytes) old status C (inr memory) = subst (λ (s : Status). Writes p words
-      (Some bytes) old old s) (sym memory) (less_than_all bytes old old (appends_none old))
-
-  -- ---- exactly when: the whole text was written
-
-  bad_line_written : (left new_left old new : Option Bytes) (status : Status) (text : Bytes)
-      → Answers command left new_left status text → Appends old new text
-      → BadLineExactly p words left old new status
-  bad_line_written left new_left old new status text answers appended bytes before told known =
-      let answer = answer_is command left new_left status text bytes answers told in (
-        λ same. (let line = bad_line_is command bytes status text answer same in (command, line.0,
-            asks, line.1, line.2, appended_is old new before text known appended
-            ∙ ap (λ (v : Bytes). Some (before ++ v)) line.3)),
-        λ line. sym (same_output bytes status BadLine text (bad_line_text line.1) (answered command
-            asks answer) (answered line.0 line.2 (bad_line line.1 line.3 line.4))).0,
-      )
-
-  refused_written : (left new_left old new : Option Bytes) (status : Status) (text : Bytes)
-      → Answers command left new_left status text → Appends old new text
-      → RefusedExactly p words left old new status
-  refused_written left new_left old new status text answers appended bytes before told known =
-      let answer = answer_is command left new_left status text bytes answers told in (
-        λ same. (let is = refused_is command bytes status text answer same in (command, text, asks,
-            is.0, is.1, appended_is old new before text known appended)),
-        λ is. sym (same_output bytes status Refused text is.1 (answered command asks answer)
-            (answered is.0 is.2 (refused is.3 is.4))).0,
-      )
-
-  too_long_written : (left new_left old new : Option Bytes) (status : Status) (text : Bytes)
-      → Answers command left new_left status text → Appends old new text
-      → TooLongExactly p words left new_left old new status
-  too_long_written left new_left old new status text answers appended bytes before told known =
-      let output = output_is left new_left status text bytes answers told in (
-        λ same. (let long = long_taken command left new_left status text answers same in (command,
-            asks, long.0, appended_is old new before text known appended
-            ∙ ap (λ (v : Bytes). Some (before ++ v)) long.1)),
-        λ long. sym (same_output bytes status TooLong text too_long_text output (answered command
-            asks (too_long (taken_long left new_left bytes long.2 told)))).0,
-      )
-
-  -- ---- exactly when: nothing was written
-
-  module _ (left new_left old new : Option Bytes) (written : Appends old new []) (status : Status)
-      (C : Type 0) (cause : WritesNothing status C) where
-    nothing_is : (before text : Bytes) → old ≡ Some before → 0 < length text
-        → new ≡ Some (before ++ text) → ⊥
-    nothing_is before text known some whole =
-        no_growth before text some (sym (append-nil before)
-            ∙ some_is (before ++ []) (before ++ text) (sym (appended_is old new before [] known
-            written) ∙ whole))
-
-    pub bad_line_unwritten : BadLineExactly p words left old new status
-    bad_line_unwritten bytes before told known = (
-      λ same. absurd (is_neither status C BadLine cause same (λ e. absurd cc) (λ e. absurd cc)),
-      λ line. (let text : Bytes = bad_line_text line.1 in
-          absurd (nothing_is before text known (some_text line.0 bytes BadLine text (bad_line line.1
-              line.3 line.4) (λ e. absurd cc)) line.5)),
-    )
-
-    pub refused_unwritten : RefusedExactly p words left old new status
-    refused_unwritten bytes before told known = (
-      λ same. absurd (is_neither status C Refused cause same (λ e. absurd cc) (λ e. absurd cc)),
-      λ is. absurd (nothing_is before is.1 known (some_text is.0 bytes Refused is.1 (refused is.3
-          is.4) (λ e. absurd cc)) is.5),
-    )
-
-    pub too_long_unwritten : TooLongExactly p words left new_left old new status
-    too_long_unwritten bytes before told known = (
-      λ same. absurd (is_neither status C TooLong cause same (λ e. absurd cc) (λ e. absurd cc)),
-      λ long. absurd (nothing_is before too_long_text known (some_text command bytes TooLong
-          too_long_text (too_long (taken_long left new_left bytes long.2 told)) (λ e. absurd cc))
-          long.3),
-    )
-
-  -- ---- exactly when: a front of the text was written, and it isn't all of the output
-
-  front_isnt : (bytes before : Bytes) (old new : Option Bytes) (status other : Status) (text
-      other_text : Bytes) → IsOutput p words bytes status text
-      → IsOutput p words bytes other other_text → WritesFrontOf text old new
-      → old ≡ Some before → new ≡ Some (before ++ other_text) → ⊥
-  front_isnt bytes before old new status other text other_text output same f known whole =
-      let one : other_text ≡ f.front ++ f.rest = (same_output bytes status other text other_text
-          output same).1 ∙ f.is_text in
-      let is : Some (before ++ f.front) ≡ Some (before ++ other_text) = sym (appended_is old new
-          before f.front known f.written) ∙ whole in
-      not_whole before f.front f.rest f.some (some_is (before ++ f.front) (before ++ other_text) is
-          ∙ ap (λ (z : Bytes). before ++ z) one)
-
-  -- a run that stops early has one of these statuses
-  abbrev StopsAs : Status → Type 0
-  StopsAs result = (result ≡ WriteFault) ⊎ (result ≡ NoMemory)
-
-  stops_isnt : (result other : Status) → StopsAs result → result ≡ other → (other ≡ WriteFault
-      → ⊥) → (other ≡ NoMemory → ⊥) → ⊥
-  stops_isnt result other (inl fault) same one two = one (sym same ∙ fault)
-  stops_isnt result other (inr memory) same one two = two (sym same ∙ memory)
-
-  module _ (left new_left old new : Option Bytes) (status : Status) (text : Bytes) (answers :
-      Answers command left new_left status text) (front : WritesFrontOf text old new) (result :
-      Status) (stops : StopsAs result) where
-    bad_line_front : BadLineExactly p words left old new result
-    bad_line_front bytes before told known =
-        let output = output_is left new_left status text bytes answers told in (
-          λ same. absurd (stops_isnt result BadLine stops same (λ e. absurd cc) (λ e. absurd cc)),
-          λ line. absurd (front_isnt bytes before old new status BadLine text (bad_line_text line.1)
-              output (answered line.0 line.2 (bad_line line.1 line.3 line.4)) front known line.5),
+    writes_all : (bytes : Bytes) (new_left old new : Option Bytes) (status : Status) (text : Bytes)
+        → Answers command (Some bytes) new_left status text → Appends old new text
+        → Writes p words (Some bytes) old new status
+    writes_all bytes new_left old new status text answers appended =
+        writes_done p words bytes old new status (answer_done command (Some bytes) new_left status
+        text answers) (
+          text,
+          output_is (Some bytes) new_left status text bytes answers refl,
+          appended,
         )
 
-    refused_front : RefusedExactly p words left old new result
-    refused_front bytes before told known =
-        let output = output_is left new_left status text bytes answers told in (
-          λ same. absurd (stops_isnt result Refused stops same (λ e. absurd cc) (λ e. absurd cc)),
-          λ is. absurd (front_isnt bytes before old new status Refused text is.1 output (answered
-              is.0 is.2 (refused is.3 is.4)) front known is.5),
+    writes_front : (bytes : Bytes) (new_left old new : Option Bytes) (status : Status) (text : Bytes)
+        → Answers command (Some bytes) new_left status text → WritesFrontOf text old new
+        → WritesFront p words bytes old new
+    writes_front bytes new_left old new status text answers front =
+        let taken = front_taken text old new front in (
+          status,
+          text,
+          taken.0,
+          output_is (Some bytes) new_left status text bytes answers refl,
+          taken.1,
+          taken.2,
         )
 
-    too_long_front : TooLongExactly p words left new_left old new result
-    too_long_front bytes before told known =
-        let output = output_is left new_left status text bytes answers told in (
-          λ same. absurd (stops_isnt result TooLong stops same (λ e. absurd cc) (λ e. absurd cc)),
-          λ long. absurd (front_isnt bytes before old new status TooLong text too_long_text output
-              (answered command asks (too_long (taken_long left new_left bytes long.2 told))) front
-              known long.3),
+    some_less : (bytes : Bytes) (old new : Option Bytes) (status : Status) (text : Bytes)
+        → IsAnswer command bytes status text → (status ≡ Ran → ⊥) → Appends old new []
+        → WritesLess p words bytes old new
+    some_less bytes old new status text answer isnt written = nothing_of p words bytes old new status
+        text (answered command asks answer) (some_text command bytes status text answer isnt) written
+
+    answer_less : (bytes : Bytes) (old new : Option Bytes) (status : Status) (text : Bytes)
+        → IsAnswer command bytes status text → Appends old new [] → WritesLess p words bytes old new
+    answer_less bytes old new status text (too_long over) written = some_less bytes old new TooLong
+        too_long_text (too_long over) (λ e. absurd cc) written
+    answer_less bytes old new status text (bad_line n within first) written = some_less bytes old new
+        BadLine (bad_line_text n) (bad_line n within first) (λ e. absurd cc) written
+    answer_less bytes old new status text (refused {text = z} within refuses) written = some_less
+        bytes old new Refused z (refused within refuses) (λ e. absurd cc) written
+    answer_less bytes old new status text (ran {text = z} within gives) written = given_less p words
+        command bytes old new z asks within gives written
+
+    less_than_all : (bytes : Bytes) (old new : Option Bytes) → Appends old new []
+        → WritesLess p words bytes old new
+    less_than_all bytes old new written =
+        let one = has_answer command bytes in
+        answer_less bytes old new one.0 one.1 one.2 written
+
+    pub writes_nothing : (left old : Option Bytes) (status : Status) (C : Type 0)
+        → WritesNothing status C → Writes p words left old old status
+    writes_nothing None old status C cause = tt
+    writes_nothing (Some bytes) old status C (inl read) = subst (λ (s : Status). Writes p words (Some
+        bytes) old old s) (sym read.0) (appends_none old)
+    writes_nothing (Some bytes) old status C (inr memory) = subst (λ (s : Status). Writes p words
+        (Some bytes) old old s) (sym memory) (less_than_all bytes old old (appends_none old))
+
+    -- ---- exactly when: the whole text was written
+
+    bad_line_written : (left new_left old new : Option Bytes) (status : Status) (text : Bytes)
+        → Answers command left new_left status text → Appends old new text
+        → BadLineExactly p words left old new status
+    bad_line_written left new_left old new status text answers appended bytes before told known =
+        let answer = answer_is command left new_left status text bytes answers told in (
+          λ same. (let line = bad_line_is command bytes status text answer same in (
+            command,
+            line.0,
+            asks,
+            line.1,
+            line.2,
+            appended_is old new before text known appended
+                ∙ ap (λ (v : Bytes). Some (before ++ v)) line.3,
+          )),
+          λ line. sym (same_output bytes status BadLine text (bad_line_text line.1) (answered command
+              asks answer) (answered line.0 line.2 (bad_line line.1 line.3 line.4))).0,
         )
 
-  -- ---- a run that has an answer to give
+    refused_written : (left new_left old new : Option Bytes) (status : Status) (text : Bytes)
+        → Answers command left new_left status text → Appends old new text
+        → RefusedExactly p words left old new status
+    refused_written left new_left old new status text answers appended bytes before told known =
+        let answer = answer_is command left new_left status text bytes answers told in (
+          λ same. (let is = refused_is command bytes status text answer same in (
+            command,
+            text,
+            asks,
+            is.0,
+            is.1,
+            appended_is old new before text known appended,
+          )),
+          λ is. sym (same_output bytes status Refused text is.1 (answered command asks answer)
+              (answered is.0 is.2 (refused is.3 is.4))).0,
+        )
 
-  abbrev EndsWith : Option Bytes → Option Bytes → Option Bytes → Option Bytes → ℕ → ℕ → Status
-      → Type 0
-  EndsWith left new_left old new faults new_faults result = Ends (Answers command left new_left) old
-      new faults new_faults result
+    too_long_written : (left new_left old new : Option Bytes) (status : Status) (text : Bytes)
+        → Answers command left new_left status text → Appends old new text
+        → TooLongExactly p words left new_left old new status
+    too_long_written left new_left old new status text answers appended bytes before told known =
+        let output = output_is left new_left status text bytes answers told in (
+          λ same. (let long = long_taken command left new_left status text answers same in (
+            command,
+            asks,
+            long.0,
+            appended_is old new before text known appended
+                ∙ ap (λ (v : Bytes). Some (before ++ v)) long.1,
+          )),
+          λ long. sym (same_output bytes status TooLong text too_long_text output (answered command
+              asks (too_long (taken_long left new_left bytes long.2 told)))).0,
+        )
 
-  pub writes_ended : (left new_left old new : Option Bytes) (faults new_faults : ℕ) (result :
-      Status) → EndsWith left new_left old new faults new_faults result
-      → Writes p words left old new result
-  writes_ended None new_left old new faults new_faults result ends = tt
-  writes_ended (Some bytes) new_left old new faults new_faults result (all_written s text answers
-      written kept) = writes_all bytes new_left old new s text answers written
-  writes_ended (Some bytes) new_left old new faults new_faults result (sink_failed s text answers
-      front rose) = writes_front bytes new_left old new s text answers front
-  writes_ended (Some bytes) new_left old new faults new_faults result (memory_lacked s text answers
-      front kept) = inl (writes_front bytes new_left old new s text answers front)
-  writes_ended (Some bytes) new_left old new faults new_faults result (nothing_written written kept)
-      = less_than_all bytes old new written
+    -- ---- exactly when: nothing was written
 
-  pub bad_line_ended : (left new_left old new : Option Bytes) (faults new_faults : ℕ) (result :
-      Status) → EndsWith left new_left old new faults new_faults result
-      → BadLineExactly p words left old new result
-  bad_line_ended left new_left old new faults new_faults result (all_written s text answers written
-      kept) = bad_line_written left new_left old new s text answers written
-  bad_line_ended left new_left old new faults new_faults result (sink_failed s text answers front
-      rose) = bad_line_front left new_left old new s text answers front WriteFault (inl refl)
-  bad_line_ended left new_left old new faults new_faults result (memory_lacked s text answers front
-      kept) = bad_line_front left new_left old new s text answers front NoMemory (inr refl)
-  bad_line_ended left new_left old new faults new_faults result (nothing_written written kept) =
-      bad_line_unwritten left new_left old new written NoMemory (Unit {0}) (inr refl)
+    module _ (left new_left old new : Option Bytes) (written : Appends old new []) (status : Status)
+        (C : Type 0) (cause : WritesNothing status C) where
+      nothing_is : (before text : Bytes) → old ≡ Some before → 0 < length text
+          → new ≡ Some (before ++ text) → ⊥
+      nothing_is before text known some whole =
+          no_growth before text some (sym (append-nil before)
+          ∙ some_is (before ++ []) (before ++ text) (sym (appended_is old new before [] known
+          written) ∙ whole))
 
-  pub refused_ended : (left new_left old new : Option Bytes) (faults new_faults : ℕ) (result :
-      Status) → EndsWith left new_left old new faults new_faults result
-      → RefusedExactly p words left old new result
-  refused_ended left new_left old new faults new_faults result (all_written s text answers written
-      kept) = refused_written left new_left old new s text answers written
-  refused_ended left new_left old new faults new_faults result (sink_failed s text answers front
-      rose) = refused_front left new_left old new s text answers front WriteFault (inl refl)
-  refused_ended left new_left old new faults new_faults result (memory_lacked s text answers front
-      kept) = refused_front left new_left old new s text answers front NoMemory (inr refl)
-  refused_ended left new_left old new faults new_faults result (nothing_written written kept) =
-      refused_unwritten left new_left old new written NoMemory (Unit {0}) (inr refl)
+      pub bad_line_unwritten : BadLineExactly p words left old new status
+      bad_line_unwritten bytes before told known = (
+        λ same. absurd (is_neither status C BadLine cause same (λ e. absurd cc) (λ e. absurd cc)),
+        λ line. (let text : Bytes = bad_line_text line.1 in
+            absurd (nothing_is before text known (some_text line.0 bytes BadLine text (bad_line line.1
+            line.3 line.4) (λ e. absurd cc)) line.5)),
+      )
 
-  pub too_long_ended : (left new_left old new : Option Bytes) (faults new_faults : ℕ) (result :
-      Status) → EndsWith left new_left old new faults new_faults result
-      → TooLongExactly p words left new_left old new result
-  too_long_ended left new_left old new faults new_faults result (all_written s text answers written
-      kept) = too_long_written left new_left old new s text answers written
-  too_long_ended left new_left old new faults new_faults result (sink_failed s text answers front
-      rose) = too_long_front left new_left old new s text answers front WriteFault (inl refl)
-  too_long_ended left new_left old new faults new_faults result (memory_lacked s text answers front
-      kept) = too_long_front left new_left old new s text answers front NoMemory (inr refl)
-  too_long_ended left new_left old new faults new_faults result (nothing_written written kept) =
-      too_long_unwritten left new_left old new written NoMemory (Unit {0}) (inr refl)
+      pub refused_unwritten : RefusedExactly p words left old new status
+      refused_unwritten bytes before told known = (
+        λ same. absurd (is_neither status C Refused cause same (λ e. absurd cc) (λ e. absurd cc)),
+        λ is. absurd (nothing_is before is.1 known (some_text is.0 bytes Refused is.1 (refused is.3
+            is.4) (λ e. absurd cc)) is.5),
+      )
 
-  pub complete_ended : (left new_left old new : Option Bytes) (faults new_faults a b : ℕ) (result :
-      Status) → EndsWith left new_left old new faults new_faults result
-      → IsComplete p words left a b faults new_faults result
-  complete_ended left new_left old new faults new_faults a b result (all_written s text answers
-      written kept) bytes other_text other told no_read no_write output =
-      inl (sym (same_output bytes s other text other_text (output_is left new_left s text bytes
-          answers told) output).0)
-  complete_ended left new_left old new faults new_faults a b result (sink_failed s text answers
-      front rose) bytes other_text other told no_read no_write output = absurd (no_write rose)
-  complete_ended left new_left old new faults new_faults a b result (memory_lacked s text answers
-      front kept) bytes other_text other told no_read no_write output = inr refl
-  complete_ended left new_left old new faults new_faults a b result (nothing_written written kept)
-      bytes other_text other told no_read no_write output = inr refl
+      pub too_long_unwritten : TooLongExactly p words left new_left old new status
+      too_long_unwritten bytes before told known = (
+        λ same. absurd (is_neither status C TooLong cause same (λ e. absurd cc) (λ e. absurd cc)),
+        λ long. absurd (nothing_is before too_long_text known (some_text command bytes TooLong
+            too_long_text (too_long (taken_long left new_left bytes long.2 told)) (λ e. absurd cc))
+            long.3),
+      )
+
+    -- ---- exactly when: a front of the text was written, and it isn't all of the output
+
+    front_isnt : (bytes before : Bytes) (old new : Option Bytes) (status other : Status) (text
+        other_text : Bytes) → IsOutput p words bytes status text
+        → IsOutput p words bytes other other_text → WritesFrontOf text old new
+        → old ≡ Some before → new ≡ Some (before ++ other_text) → ⊥
+    front_isnt bytes before old new status other text other_text output same f known whole =
+        let one : other_text ≡ f.front ++ f.rest = (same_output bytes status other text other_text
+        output same).1 ∙ f.is_text in
+        let is : Some (before ++ f.front) ≡ Some (before ++ other_text) = sym (appended_is old new
+        before f.front known f.written) ∙ whole in
+        not_whole before f.front f.rest f.some (some_is (before ++ f.front) (before ++ other_text) is
+        ∙ ap (λ (z : Bytes). before ++ z) one)
+
+    -- a run that stops early has one of these statuses
+    abbrev StopsAs : Status → Type 0
+    StopsAs result = (result ≡ WriteFault) ⊎ (result ≡ NoMemory)
+
+    stops_isnt : (result other : Status) → StopsAs result → result ≡ other → (other ≡ WriteFault
+        → ⊥) → (other ≡ NoMemory → ⊥) → ⊥
+    stops_isnt result other (inl fault) same one two = one (sym same ∙ fault)
+    stops_isnt result other (inr memory) same one two = two (sym same ∙ memory)
+
+    module _ (left new_left old new : Option Bytes) (status : Status) (text : Bytes) (answers :
+        Answers command left new_left status text) (front : WritesFrontOf text old new) (result :
+        Status) (stops : StopsAs result) where
+      bad_line_front : BadLineExactly p words left old new result
+      bad_line_front bytes before told known =
+          let output = output_is left new_left status text bytes answers told in (
+            λ same. absurd (stops_isnt result BadLine stops same (λ e. absurd cc) (λ e. absurd cc)),
+            λ line. absurd (front_isnt bytes before old new status BadLine text (bad_line_text line.1)
+                output (answered line.0 line.2 (bad_line line.1 line.3 line.4)) front known line.5),
+          )
+
+      refused_front : RefusedExactly p words left old new result
+      refused_front bytes before told known =
+          let output = output_is left new_left status text bytes answers told in (
+            λ same. absurd (stops_isnt result Refused stops same (λ e. absurd cc) (λ e. absurd cc)),
+            λ is. absurd (front_isnt bytes before old new status Refused text is.1 output (answered
+                is.0 is.2 (refused is.3 is.4)) front known is.5),
+          )
+
+      too_long_front : TooLongExactly p words left new_left old new result
+      too_long_front bytes before told known =
+          let output = output_is left new_left status text bytes answers told in (
+            λ same. absurd (stops_isnt result TooLong stops same (λ e. absurd cc) (λ e. absurd cc)),
+            λ long. absurd (front_isnt bytes before old new status TooLong text too_long_text output
+                (answered command asks (too_long (taken_long left new_left bytes long.2 told))) front
+                known long.3),
+          )
+
+    -- ---- a run that has an answer to give
+
+    abbrev EndsWith : Option Bytes → Option Bytes → Option Bytes → Option Bytes → ℕ → ℕ → Status
+        → Type 0
+    EndsWith left new_left old new faults new_faults result = Ends (Answers command left new_left) old
+        new faults new_faults result
+
+    pub writes_ended : (left new_left old new : Option Bytes) (faults new_faults : ℕ) (result :
+        Status) → EndsWith left new_left old new faults new_faults result
+        → Writes p words left old new result
+    writes_ended None new_left old new faults new_faults result ends = tt
+    writes_ended (Some bytes) new_left old new faults new_faults result (all_written s text answers
+        written kept) = writes_all bytes new_left old new s text answers written
+    writes_ended (Some bytes) new_left old new faults new_faults result (sink_failed s text answers
+        front rose) = writes_front bytes new_left old new s text answers front
+    writes_ended (Some bytes) new_left old new faults new_faults result (memory_lacked s text answers
+        front kept) = inl (writes_front bytes new_left old new s text answers front)
+    writes_ended (Some bytes) new_left old new faults new_faults result (nothing_written written kept)
+        = less_than_all bytes old new written
+
+    pub bad_line_ended : (left new_left old new : Option Bytes) (faults new_faults : ℕ) (result :
+        Status) → EndsWith left new_left old new faults new_faults result
+        → BadLineExactly p words left old new result
+    bad_line_ended left new_left old new faults new_faults result (all_written s text answers written
+        kept) = bad_line_written left new_left old new s text answers written
+    bad_line_ended left new_left old new faults new_faults result (sink_failed s text answers front
+        rose) = bad_line_front left new_left old new s text answers front WriteFault (inl refl)
+    bad_line_ended left new_left old new faults new_faults result (memory_lacked s text answers front
+        kept) = bad_line_front left new_left old new s text answers front NoMemory (inr refl)
+    bad_line_ended left new_left old new faults new_faults result (nothing_written written kept) =
+        bad_line_unwritten left new_left old new written NoMemory (Unit {0}) (inr refl)
+
+    pub refused_ended : (left new_left old new : Option Bytes) (faults new_faults : ℕ) (result :
+        Status) → EndsWith left new_left old new faults new_faults result
+        → RefusedExactly p words left old new result
+    refused_ended left new_left old new faults new_faults result (all_written s text answers written
+        kept) = refused_written left new_left old new s text answers written
+    refused_ended left new_left old new faults new_faults result (sink_failed s text answers front
+        rose) = refused_front left new_left old new s text answers front WriteFault (inl refl)
+    refused_ended left new_left old new faults new_faults result (memory_lacked s text answers front
+        kept) = refused_front left new_left old new s text answers front NoMemory (inr refl)
+    refused_ended left new_left old new faults new_faults result (nothing_written written kept) =
+        refused_unwritten left new_left old new written NoMemory (Unit {0}) (inr refl)
+
+    pub too_long_ended : (left new_left old new : Option Bytes) (faults new_faults : ℕ) (result :
+        Status) → EndsWith left new_left old new faults new_faults result
+        → TooLongExactly p words left new_left old new result
+    too_long_ended left new_left old new faults new_faults result (all_written s text answers written
+        kept) = too_long_written left new_left old new s text answers written
+    too_long_ended left new_left old new faults new_faults result (sink_failed s text answers front
+        rose) = too_long_front left new_left old new s text answers front WriteFault (inl refl)
+    too_long_ended left new_left old new faults new_faults result (memory_lacked s text answers front
+        kept) = too_long_front left new_left old new s text answers front NoMemory (inr refl)
+    too_long_ended left new_left old new faults new_faults result (nothing_written written kept) =
+        too_long_unwritten left new_left old new written NoMemory (Unit {0}) (inr refl)
+
+    pub complete_ended : (left new_left old new : Option Bytes) (faults new_faults a b : ℕ) (result :
+        Status) → EndsWith left new_left old new faults new_faults result
+        → IsComplete p words left a b faults new_faults result
+    complete_ended left new_left old new faults new_faults a b result (all_written s text answers
+        written kept) bytes other_text other told no_read no_write output =
+        inl (sym (same_output bytes s other text other_text (output_is left new_left s text bytes
+        answers told) output).0)
+    complete_ended left new_left old new faults new_faults a b result (sink_failed s text answers
+        front rose) bytes other_text other told no_read no_write output = absurd (no_write rose)
+    complete_ended left new_left old new faults new_faults a b result (memory_lacked s text answers
+        front kept) bytes other_text other told no_read no_write output = inr refl
+    complete_ended left new_left old new faults new_faults a b result (nothing_written written kept)
+        bytes other_text other told no_read no_write output = inr refl
 
 -- ---- which status a run ends with that has an answer to give
 

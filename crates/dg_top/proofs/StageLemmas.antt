@@ -97,13 +97,13 @@ from_session : (doc : Doc) → PassesDependencies doc → bindings_stage doc ≡
     → sizes_stage doc ≡ [] → diagnostics doc ≡ first_found (behind_sizes doc)
 from_session doc passes bindings sizes =
     from_bindings doc passes ∙ found_later (bindings_stage doc) (sizes_stage doc ∷ behind_sizes doc)
-        bindings ∙ found_later (sizes_stage doc) (behind_sizes doc) sizes
+    bindings ∙ found_later (sizes_stage doc) (behind_sizes doc) sizes
 
 from_links : (doc : Doc) → PassesDependencies doc → bindings_stage doc ≡ [] → sizes_stage doc ≡ []
     → session_stage doc ≡ [] → diagnostics doc ≡ links_stage doc
 from_links doc passes bindings sizes session =
     from_session doc passes bindings sizes ∙ found_later (session_stage doc) (behind_session doc)
-        session ∙ found_last (links_stage doc)
+    session ∙ found_last (links_stage doc)
 
 -- ---- what a stage finds is the diagnostics, where those before find nothing
 
@@ -134,14 +134,14 @@ module _ (doc : Doc) (found : List Violation) where
       → found ≡ dependencies_stage doc → found ≢ [] → found ≡ diagnostics doc
   dependencies_are names types components is some =
       first_are found (dependencies_stage doc) (behind_dependencies doc) is (some_in found
-          (dependencies_stage doc) is some) ∙ sym (from_dependencies doc names types components)
+      (dependencies_stage doc) is some) ∙ sym (from_dependencies doc names types components)
 
   pub in_graph_are : PassesDependencies doc → found ≡ first_found (bindings_stage doc ∷ sizes_stage
       doc ∷ []) → found ≢ [] → found ≡ diagnostics doc
   in_graph_are passes is some =
       is ∙ sym (two_before (bindings_stage doc) (sizes_stage doc) (behind_sizes doc) (some_in found
-          (first_found (bindings_stage doc ∷ sizes_stage doc ∷ [])) is some))
-          ∙ sym (from_bindings doc passes)
+      (first_found (bindings_stage doc ∷ sizes_stage doc ∷ [])) is some))
+      ∙ sym (from_bindings doc passes)
 
   pub session_are : PassesDependencies doc → bindings_stage doc ≡ [] → sizes_stage doc ≡ []
       → found ≡ session_stage doc → session_stage doc ≢ [] → found ≡ diagnostics doc
@@ -156,8 +156,12 @@ module _ (doc : Doc) (found : List Violation) where
 -- the stage of dependencies passes too
 pub passes_dependencies : (doc : Doc) → names_stage doc ≡ [] → types_stage doc ≡ []
     → components_stage doc ≡ [] → dependencies_stage doc ≡ [] → PassesDependencies doc
-passes_dependencies doc names types components dependencies = record { names = names; types = types;
-    components = components; dependencies = dependencies }
+passes_dependencies doc names types components dependencies = record {
+  names = names;
+  types = types;
+  components = components;
+  dependencies = dependencies;
+}
 
 none_first : (xs : List Violation) (later : List (List Violation)) → first_found (xs ∷ later) ≡ []
     → (xs ≡ []) × (first_found later ≡ [])
@@ -178,7 +182,7 @@ nothing_found doc accepted =
     let components = none_first (components_stage doc) (behind_components doc) types.1 in
     let dependencies = none_first (dependencies_stage doc) (behind_dependencies doc) components.1 in
     let bindings = none_first (bindings_stage doc) (sizes_stage doc ∷ behind_sizes doc)
-        dependencies.1 in
+    dependencies.1 in
     let sizes = none_first (sizes_stage doc) (behind_sizes doc) bindings.1 in
     let session = none_first (session_stage doc) (behind_session doc) sizes.1 in
     let links = none_first (links_stage doc) [] session.1 in

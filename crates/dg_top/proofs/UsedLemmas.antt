@@ -1,5 +1,5 @@
 -- What asks use, one after the other.
-use Rattle.std.proofs.Common.{◌≡◌, inl, inr, ℕ, zero, suc, List, [], ◌∷◌, ◌++◌, length, filter_map, flat_map, Contains, Option, Some, None, refl, sym, ap, subst, ◌∙◌}
+use Rattle.std.proofs.Common.{◌≡◌, inl, inr, ℕ, zero, suc, List, [], ◌∷◌, ◌++◌, length, filter_map, flat_map, Contains, Some, None, sym, ap, subst, ◌∙◌}
 use Rattle.std.specs.Prelude.{IsSome}
 use Rattle.std.proofs.lemmas.Grind.{flat_map-append}
 use Rattle.std.proofs.lemmas.List.{append-nil}
@@ -38,7 +38,7 @@ used_further doc (suc depth) x y z h a =
           (sym e) a) (used_self doc depth z))
       | inr r ↦ (let o = out_flat_map (used doc depth) (asked_by doc x) y r in
           in_rest z x (flat_map (used doc (suc depth)) (asked_by doc x)) (in_flat_map (used doc (suc
-              depth)) (asked_by doc x) o.0 z o.1 (used_further doc depth o.0 y z o.2 a)))
+          depth)) (asked_by doc x) o.0 z o.1 (used_further doc depth o.0 y z o.2 a)))
     ]
 
 -- a closed list has all that one of it uses
@@ -77,7 +77,7 @@ scope_closed doc accepted end x y h a =
     let p = out_flat_map (used_by_ask doc) (numbered_asks doc) x h in
     let f = out_flat_map (used doc 256) (asks_for doc p.0) x p.2 in
     among_all doc p.0 y p.1 (end doc accepted p.0 p.1 f.0 y f.1 257 (used_further doc 256 f.0 x y
-        f.2 a))
+    f.2 a))
 
 may_run : (s : Scope) (run : Run Reached) → IsSome (reply_of run) → MayAsk s (asks_of run)
     → MayRun s run
@@ -99,7 +99,7 @@ used_more : (doc : Doc) (n : ℕ) (p : ℕ × Ask) → first_asks doc (suc n) �
 unfolding used_by_first
 used_more doc n p is =
     ap (flat_map (used_by_ask doc)) is ∙ flat_map-append (used_by_ask doc) (first_asks doc n) (p ∷
-        [])
+    [])
     ∙ ap (λ (xs : List Asked). used_by_first doc n ++ xs) (append-nil (used_by_ask doc p))
 
 pub none_asked : (doc : Doc) → AreAsked doc 0 []
@@ -116,12 +116,11 @@ module _ (doc : Doc) (accepted : IsAccepted doc) (end : UsesEnd) (n : ℕ) (p : 
       → Contains (used_by_first doc (suc n)) x
   asked_uses old new more before grown exactly x h =
       subst (λ (xs : List Asked). Contains xs x) (sym (used_more doc n p is))
-      (elim (Contains-append_cases old more x (subst (λ (xs : List Asked). Contains xs x) grown h))
-          [
+      (elim (Contains-append_cases old more x (subst (λ (xs : List Asked). Contains xs x) grown h)) [
         | inl l ↦ Contains-append_left (used_by_first doc n) (used_by_ask doc p) x (before.used x l)
         | inr r ↦ (let u = exactly.used x r in
             Contains-append_right (used_by_first doc n) (used_by_ask doc p) x (end doc accepted p at
-                u.0 x u.1 u.2.0 u.2.1))
+            u.0 x u.1 u.2.0 u.2.1))
       ])
 
   all_asked : (t : Stored) (old more : List Asked) → IsSound doc t → AreAsked doc n old
@@ -129,14 +128,14 @@ module _ (doc : Doc) (accepted : IsAccepted doc) (end : UsesEnd) (n : ℕ) (p : 
       → Contains (used_by_first doc (suc n)) x → Contains t.asked x
   all_asked t old more sound before grown exactly x h =
       elim (Contains-append_cases (used_by_first doc n) (used_by_ask doc p) x (subst (λ (xs : List
-          Asked). Contains xs x) (used_more doc n p is) h)) [
+      Asked). Contains xs x) (used_more doc n p is) h)) [
         | inl l ↦ subst (λ (xs : List Asked). Contains xs x) (sym grown) (Contains-append_left old
             more x (before.all x l))
         | inr r ↦ (let f = out_flat_map (used doc 256) (asks_for doc p) x r in
             let first : Contains t.asked f.0 = subst (λ (xs : List Asked). Contains xs f.0) (sym
-                grown) (Contains-append_right old more f.0 (exactly.each f.0 f.1)) in
+            grown) (Contains-append_right old more f.0 (exactly.each f.0 f.1)) in
             sound.stored_asked x (used_within doc (names t) sound.closed 256 f.0 x
-                (sound.asked_stored f.0 first) f.2))
+            (sound.asked_stored f.0 first) f.2))
       ]
 
   pub asked_more : (t : Stored) (old more : List Asked) → IsSound doc t → AreAsked doc n old
@@ -168,6 +167,6 @@ unfolding cells cells_of used_by_first
 cell_count doc n t is sound after =
     let all : first_asks doc n ≡ numbered_asks doc = ap (first_asks doc) is ∙ all_asks doc in
     same_count t (used_by_first doc n) sound.once (λ x h. after.used x (sound.stored_asked x h)) (λ
-        x h. sound.asked_stored x (after.all x h))
+    x h. sound.asked_stored x (after.all x h))
     ∙ ap (λ (ps : List (ℕ × Ask)). length (each_once (filter_map as_cell (flat_map (used_by_ask doc)
-        ps)))) all
+    ps)))) all

@@ -1,5 +1,5 @@
 -- The answers to a document and to what a source gave.
-use Rattle.std.specs.Prelude.{◌≡◌, ◌≢◌, ◌≤◌, ◌+◌, ℕ, List, [], length, Option, Some, None}
+use Rattle.std.specs.Prelude.{◌≢◌, ◌≤◌, ◌+◌, [], length, Option, Some, None}
 use Rattle.std.specs.Io.KnownBytes.{Consumes, IsAtEnd}
 use Rattle.dg_top.specs.declared.status.Status.{Status}
 use Rattle.dg_top.specs.declared.status.Status.TheVariants.{Ran, Refused, TooLong}

@@ -1,5 +1,5 @@
 -- How a run ends that has an answer to give.
-use Rattle.std.specs.Prelude.{◌≡◌, ◌<◌, ℕ, List, [], ◌++◌, length, Option, Some, None, Result, Ok, Err}
+use Rattle.std.specs.Prelude.{◌≡◌, ◌<◌, ℕ, [], ◌++◌, length, Option, Some, None, Result, Ok, Err}
 use Rattle.std.specs.Io.KnownBytes.{Appends}
 use Rattle.dg_io.specs.Causes.{Rose}
 use Rattle.dg_types.specs.declared.memory.NoMemory.{NoMemory as no_memory}

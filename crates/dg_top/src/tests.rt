@@ -262,7 +262,10 @@ fn a_failure_is_the_reply_and_its_cell_counts(rt: HostRuntime) -> Result<(), Fai
 fn a_key_without_an_entry_is_absent(rt: HostRuntime) -> Result<(), Fail> {
     let (status, sink) = run(rt.alloc(), &[], KEYED, calm(4096))?;
     assert_eq!(rt; status, Status::Ran);
-    assert_eq!(rt; sink.bytes(), b"1 \"first\"\n2 absent\ncells 0\n".as_slice());
+    assert_eq!(rt;
+        sink.bytes(),
+        b"1 \"first\"\n2 absent\ncells 0\n".as_slice()
+    );
     Ok(())
 }
 

@@ -23,7 +23,10 @@ loop-index-preserved g c =
 
 pub returns-clause-asked : goal.returns-clause-asked
 returns-clause-asked g c =
-    let same : c.loop-index.index ≡ c.args.to = omega (arith, c.loop-index-test.false,
-        c.loop-index.invariant.within) in
+    let same : c.loop-index.index ≡ c.args.to = omega (
+      arith,
+      c.loop-index-test.false,
+      c.loop-index.invariant.within,
+    ) in
     subst (λ (n : ℕ). AreAsked g.D.RunsDoc.document n c.loop-index.tree.asked) same
-        c.loop-index.invariant.asked
+    c.loop-index.invariant.asked

@@ -26,9 +26,9 @@ returns-in_err-text-clause-cause g c =
     let old = g.K.Sink.written c.args.sink.now in
     let now = g.K.Sink.written c.loop-start.sink in
     stops_lacking (report doc) old now (g.K.Sink.faults c.args.sink.now) (g.K.Sink.faults
-        c.loop-start.sink) c.from_residual.result
+    c.loop-start.sink) c.from_residual.result
     (front_of_report doc c.loop-start.start old now c.loop-start.invariant.written)
-        c.loop-start.invariant.kept c.from_residual.ensures.1
+    c.loop-start.invariant.kept c.from_residual.ensures.1
 
 pub returns-in_err-write_all-clause-cause : goal.returns-in_err-write_all-clause-cause
 returns-in_err-write_all-clause-cause g c =
@@ -39,8 +39,8 @@ returns-in_err-write_all-clause-cause g c =
     let new_faults = g.K.Sink.faults c.write_all.new.sink in
     let front = rw c.as_slice.ensures.value at c.in_err-write_all.ensures.front in
     stops_failing (report doc) old new (g.K.Sink.faults c.args.sink.now) new_faults
-        c.from_residual-in_err-write_all.result
+    c.from_residual-in_err-write_all.result
     (front_of_lines doc c.loop-start.start c.min-end.result front.0 c.in_ok-text.text.items old
-        middle new c.in_ok-text.ensures.exact front.1 c.loop-start.invariant.written front.2)
+    middle new c.in_ok-text.ensures.exact front.1 c.loop-start.invariant.written front.2)
     (subst (λ (n : ℕ). Rose n new_faults) c.loop-start.invariant.kept
-        c.in_err-write_all.ensures.cause) c.from_residual-in_err-write_all.ensures.1
+    c.in_err-write_all.ensures.cause) c.from_residual-in_err-write_all.ensures.1

@@ -10,7 +10,7 @@ returns-in_err-declared-clause-cause g c =
     let old = g.K.Sink.written c.args.sink.now in
     let faults = g.K.Sink.faults c.args.sink.now in
     stops_lacking text old old faults faults c.from_residual.result (none_of text old (some_report
-        g.D.RunsDoc.document)) refl c.from_residual.ensures.1
+    g.D.RunsDoc.document)) refl c.from_residual.ensures.1
 
 pub returns-in_err-names-clause-cause : goal.returns-in_err-names-clause-cause
 returns-in_err-names-clause-cause g c =
@@ -18,7 +18,7 @@ returns-in_err-names-clause-cause g c =
     let old = g.K.Sink.written c.args.sink.now in
     let faults = g.K.Sink.faults c.args.sink.now in
     stops_lacking text old old faults faults c.from_residual-in_err-names.result (none_of text old
-        (some_report g.D.RunsDoc.document)) refl c.from_residual-in_err-names.ensures.1
+    (some_report g.D.RunsDoc.document)) refl c.from_residual-in_err-names.ensures.1
 
 pub returns-in_err-world-clause-cause : goal.returns-in_err-world-clause-cause
 returns-in_err-world-clause-cause g c =
@@ -26,7 +26,7 @@ returns-in_err-world-clause-cause g c =
     let old = g.K.Sink.written c.args.sink.now in
     let faults = g.K.Sink.faults c.args.sink.now in
     stops_lacking text old old faults faults c.from_residual-in_err-world.result (none_of text old
-        (some_report g.D.RunsDoc.document)) refl c.from_residual-in_err-world.ensures.1
+    (some_report g.D.RunsDoc.document)) refl c.from_residual-in_err-world.ensures.1
 
 pub returns-in_err-tree-clause-cause : goal.returns-in_err-tree-clause-cause
 returns-in_err-tree-clause-cause g c =
@@ -34,4 +34,4 @@ returns-in_err-tree-clause-cause g c =
     let old = g.K.Sink.written c.args.sink.now in
     let faults = g.K.Sink.faults c.args.sink.now in
     stops_lacking text old old faults faults c.from_residual-in_err-tree.result (none_of text old
-        (some_report g.D.RunsDoc.document)) refl c.from_residual-in_err-tree.ensures.1
+    (some_report g.D.RunsDoc.document)) refl c.from_residual-in_err-tree.ensures.1

@@ -10,4 +10,4 @@ returns-in_err-prepared-clause-cause g c =
     let old = g.K.Sink.written c.args.sink.now in
     let faults = g.K.Sink.faults c.args.sink.now in
     stops_lacking text old old faults faults c.from_residual.result (none_of text old (some_report
-        c.args.d.now)) refl c.from_residual.ensures.1
+    c.args.d.now)) refl c.from_residual.ensures.1
