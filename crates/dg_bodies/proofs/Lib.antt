@@ -1,1 +1,4 @@
+pub mod ElementLemmas
+pub mod SetLemmas
 pub mod TextLemmas
+pub mod RunLists
