@@ -1,4 +1,10 @@
+pub mod Steps
+pub mod PlainRuns
+pub mod PartRuns
+pub mod ParamLemmas
+pub mod PartForms
+pub mod CountLemmas
 pub mod ElementLemmas
+pub mod RunLists
 pub mod SetLemmas
 pub mod TextLemmas
-pub mod RunLists

@@ -1,15 +1,21 @@
 -- Where a body is evaluated, and what its parts give there.
-use Rattle.std.specs.Prelude.{ℕ, ◌+◌, List, length}
+use Rattle.std.specs.Prelude.{◌≡◌, ℕ, ◌+◌, List, ◌++◌, Some, Contains, length, slice_get}
 use Rattle.dg_slots.specs.declared.plan.Plan.{Plan}
 use Rattle.dg_value.specs.declared.place.Place.{Place}
 use Rattle.dg_value.specs.declared.value.Value.{Value}
-use Rattle.dg_eval.specs.Runs.{Run, in_order}
-use Rattle.dg_eval.specs.Bodies.{Around, Part, news_of, called_of, runs_of}
+use Rattle.dg_decl.specs.declared.expression.CallName.{CallName}
+use Rattle.dg_decl.specs.declared.expression.CallName.TheVariants as call
+use Rattle.dg_value.specs.declared.value.Value.{out-Value}
+use Rattle.dg_eval.specs.Runs.{Run, gives, mistyped}
+use Rattle.dg_eval.specs.Operations.{int_in, text_in, decimal_of, size_at, fail_of}
+use Rattle.dg_eval.specs.Bodies.{Around, Part, looked, of_two}
 use Rattle.dg_eval.specs.Meaning.{eval, around}
+use Rattle.dg_decl.specs.declared.document.Doc.{Doc}
 use Rattle.dg_requests.specs.Scopes.{Scope}
+use Rattle.dg_requests.specs.Contexts.{AwaitFits}
 use Rattle.dg_bodies.specs.declared.counters.NewsAndCalls.{NewsAndCalls}
 
--- the plan, the slot whose body it is, the place and the parameters
+-- the plan, the slot whose body it is, its place and the parameters
 pub record Site : Type 0 where
   pub plan : Plan
   pub slot : ℕ
@@ -24,17 +30,22 @@ seen s depth site = around s.doc (eval s.doc depth) depth site.slot site.place s
 abbrev pub run_at : {A : Type 0} → Part A → Around → NewsAndCalls → Run A
 run_at part s at = part.run s at.news at.calls
 
--- how many stand before what comes after a part
-abbrev pub after : {A : Type 0} → Part A → NewsAndCalls → NewsAndCalls
-after part at = record {
-  news = at.news + part.news;
-  calls = at.calls + length part.called;
-}
+-- a part, and the content behind its value
+abbrev pub looked_part : Part Value → Part Value
+looked_part p = record { news = p.news; called = p.called; run = looked p }
 
--- some parts one behind the other
-abbrev pub row : {A : Type 0} → List (Part A) → Part (List A)
-row ps = record {
-  news = news_of ps;
-  called = called_of ps;
-  run = λ s n c. in_order (runs_of ps s n c);
-}
+-- the contents behind the values of two parts
+abbrev pub pair_part : Part Value → Part Value → Part (Value × Value)
+pair_part a b = of_two a b (λ s v w. gives (v, w))
+
+-- what a function of one argument gives of the content behind it, in the body of a slot
+abbrev pub applied_to : CallName → ℕ → Value → Run Value
+applied_to call.TextOf origin v = decimal_of (int_in v)
+applied_to call.Size origin v = size_at (out-Value v)
+applied_to call.Fail origin v = fail_of origin (text_in v)
+applied_to other origin v = mistyped
+
+-- of the parameters that a body calls, each is one that may be awaited
+abbrev pub AwaitsFit : Doc → List ℕ → List Value → Type 0
+AwaitsFit doc called params =
+    (p : ℕ) (v : Value) → Contains called p → slice_get params p ≡ Some v → AwaitFits doc v

@@ -1,11 +1,18 @@
 //! Bodies: what an expression, a condition or a decision tree gives.
 #![tactic(auto)]
 
+mod calls;
 mod counters;
+mod expressions;
 mod operations;
+mod params;
 mod parts;
 mod sets;
+mod site;
+mod trees;
 
 pub use operations::{failed, mistyped};
 pub use counters::NewsAndCalls;
 pub use parts::{elements, entry_value, entry_with, inside, production, value_if};
+pub use sets::set_of;
+pub use trees::tree_end;

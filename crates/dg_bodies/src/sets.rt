@@ -2,20 +2,22 @@
 
 ghost use Rattle.std.specs.Prelude.{◌≡◌, ◌≤◌, [], IfOk, map};
 ghost use Rattle.std.specs.List.{filter_map};
+ghost use Rattle.dg_value.specs.declared.value.Value.{out-Value};
 ghost use Rattle.dg_value.specs.declared.value.Value.TheVariants as value;
 ghost use Rattle.dg_eval.specs.Bodies as bodies;
 ghost use Rattle.dg_eval.specs.Meaning as meaning;
 ghost use Rattle.dg_eval.specs.Operations as operations_spec;
 ghost use Rattle.dg_eval.specs.Runs.{in_order};
 ghost use Rattle.dg_requests.specs.Scopes.{IsClosed};
-ghost use Rattle.dg_requests.specs.Results.{CanRun, Ran};
+ghost use Rattle.dg_requests.specs.Results.{CanRun, Ran, Gave};
 ghost use Rattle.dg_requests.specs.Depths.{IsBelow};
 ghost use Rattle.dg_bodies.specs.Elements as spec;
 ghost use Rattle.dg_bodies.specs.Elements.{listed};
 
-use crate::parts::entry_value;
+use crate::operations::mistyped;
+use crate::parts::{elements, entry_value};
 use dg_requests::{Below, Cells, InScope, Stop, look};
-use dg_types::NoMemory;
+use dg_types::{MapKeyVal, NoMemory};
 use dg_value::{Shared, Value, same_element};
 use sqlite_items::Items;
 use std::alloc::Global;
@@ -151,4 +153,85 @@ pub fn set_of<S: InScope, C: Cells, B: Below<C>>(
     let order = as_looked_at(alloc, values)?;
     let contents = look_all::<S, C, B>(alloc, order.as_slice(), below, depth, cells)?;
     Ok(set_from(alloc, values, contents)?)
+}
+
+/// The values among the entries of a set.
+fn entry_values(alloc: Global, entries: &[Value]) -> Result<Vec<Value>, NoMemory>
+    ensures exact { IfOk result (λ values. values.items
+        ≡ filter_map operations_spec.entry_value entries.now) }
+{
+    let mut values = Vec::new(alloc);
+    for entry in entries {
+        if let Some(value) = entry_value(entry) {
+            values.push(value.copy()?)?;
+        }
+    }
+    Ok(values)
+}
+
+/// The entry of a map with its value, if it is one.
+fn keyed(
+    alloc: Global,
+    entry: &(MapKeyVal, Value),
+) -> Result<Option<(MapKeyVal, Value)>, NoMemory>
+    ensures exact { IfOk result (λ o. o ≡ operations_spec.keyed entry.now) }
+{
+    match entry_value(&entry.1) {
+        Some(value) => Ok(Some((entry.0.copy(alloc)?, value.copy()?))),
+        None => Ok(None),
+    }
+}
+
+/// The entries of a map that are values.
+fn keyed_entries(
+    alloc: Global,
+    entries: &[(MapKeyVal, Value)],
+) -> Result<Items<(MapKeyVal, Value)>, NoMemory>
+    ensures exact { IfOk result (λ values. values ≡ filter_map operations_spec.keyed entries.now) }
+{
+    let mut values = Items::new(alloc);
+    for entry in entries {
+        if let Some(value) = keyed(alloc, entry)? {
+            values.push(value)?;
+        }
+    }
+    Ok(values)
+}
+
+/// The entries of a map that are values, where a value is one.
+fn keyed_at(alloc: Global, v: &Value) -> Result<Value, Stop>
+    ensures exact { Gave (spec.keyed_at (out-Value v.now)) result }
+{
+    match v {
+        Value::Map(entries) => {
+            let values = keyed_entries(alloc, entries.get().as_slice())?;
+            Ok(Value::Map(Shared::new(alloc, values)?))
+        }
+        _ => mistyped(alloc),
+    }
+}
+
+/// The entries of a set or map that are values: in a set, of equal ones the first.
+pub(crate) fn values_in<S: InScope, C: Cells, B: Below<C>>(
+    alloc: Global,
+    v: &Value,
+    below: &B,
+    depth: u32,
+    cells: &mut C,
+) -> Result<Value, Stop>
+    requires below { IsBelow C.scope C.asked B.can_eval B.eval_gives below.now S.scope depth }
+    requires deep { depth ≤ 128 }
+    requires closed { IsClosed S.scope }
+    requires same { C.scope cells.old ≡ S.scope }
+    requires can { CanRun S.scope (bodies.values_in (meaning.look (meaning.eval S.scope.doc depth) depth) v.now) }
+    ensures ran { Ran S.scope (bodies.values_in (meaning.look (meaning.eval S.scope.doc depth) depth) v.now) (C.asked cells.old) (C.asked cells.new) result }
+    ensures same { C.scope cells.new ≡ S.scope }
+{
+    match elements(v) {
+        Some(entries) => {
+            let values = entry_values(alloc, entries)?;
+            set_of::<S, C, B>(alloc, values.as_slice(), below, depth, cells)
+        }
+        None => keyed_at(alloc, v),
+    }
 }

@@ -1,0 +1,60 @@
+-- A run that is another one and what goes on with its result.
+use Rattle.std.proofs.Common.{◌≡◌, List, [], Option, Some, None, Result, Ok, Err, sym, ap, subst, ◌∙◌}
+use Rattle.std.specs.Result.{OnOk}
+use Rattle.dg_lex.specs.Bytes.{Bytes}
+use Rattle.std.specs.Prelude.{ℕ}
+use Rattle.dg_eval.specs.Runs.{Asked, Run, and_then, failed, asks_of}
+use Rattle.dg_requests.specs.declared.stop.Stop.{Stop}
+use Rattle.dg_requests.specs.declared.stop.Stop.TheVariants as stop
+use Rattle.dg_requests.specs.Scopes.{Scope}
+use Rattle.dg_requests.specs.Results.{CanRun, Gave, Ran}
+use Rattle.dg_requests.proofs.RanLemmas.{can_as, can_first, can_rest, ran_as, ran_stops, ran_then, ran_plain, ran_nothing}
+use Rattle.dg_bodies.proofs.RunLists.{stops_as, then_gives}
+
+pub can_begin : {A B : Type 0} (s : Scope) (whole : Run B) (r : Run A) (next : A → Run B)
+    → whole ≡ and_then r next → CanRun s whole → CanRun s r
+can_begin s whole r next is h = can_first s r next (can_as s whole (and_then r next) is h)
+
+pub can_go_on : {A B : Type 0} (s : Scope) (whole : Run B) (r : Run A) (next : A → Run B) (a : A)
+    (x y : Option (List Asked)) → whole ≡ and_then r next → CanRun s whole
+    → Ran s r x y (Ok a) → CanRun s (next a)
+can_go_on s whole r next a x y is h ran =
+    can_rest s r next a (can_as s whole (and_then r next) is h) ran.gave
+
+pub stops : {A B : Type 0} (s : Scope) (whole : Run B) (r : Run A) (next : A → Run B)
+    (x y : Option (List Asked)) (e d : Stop) (result : Result B Stop) → whole ≡ and_then r next
+    → CanRun s whole → Ran s r x y (Err e) → result ≡ Err d → d ≡ e → Ran s whole x y result
+stops s whole r next x y e d result is h ran gives same =
+    stops_as s whole x y e d result gives same
+    (ran_as s (and_then r next) whole x y (Err e) (sym is)
+    (ran_stops s r next e x y (can_as s whole (and_then r next) is h) ran))
+
+pub goes_on : {A B : Type 0} (s : Scope) (whole : Run B) (r : Run A) (next : A → Run B) (a : A)
+    (x y z : Option (List Asked)) (result : Result B Stop) → whole ≡ and_then r next
+    → CanRun s whole → Ran s r x y (Ok a) → Ran s (next a) y z result → Ran s whole x z result
+goes_on s whole r next a x y z result is h ran rest =
+    ran_as s (and_then r next) whole x z result (sym is)
+    (ran_then s r next a x y z result (can_as s whole (and_then r next) is h) ran rest)
+
+-- memory lacks after the first
+pub lacks : {A B : Type 0} (s : Scope) (whole : Run B) (r : Run A) (next : A → Run B) (a : A)
+    (x y : Option (List Asked)) (d : Stop) (result : Result B Stop) → whole ≡ and_then r next
+    → CanRun s whole → Ran s r x y (Ok a) → result ≡ Err d → d ≡ stop.NoMemory
+    → Ran s whole x y result
+lacks s whole r next a x y d result is h ran gives same =
+    stops_as s whole x y stop.NoMemory d result gives same
+    (goes_on s whole r next a x y y (Err stop.NoMemory) is h ran (ran_nothing s (next a) y))
+
+-- memory lacks before anything was asked for
+pub lacks_first : {A : Type 0} (s : Scope) (whole : Run A) (x : Option (List Asked)) (d : Stop)
+    (result : Result A Stop) → result ≡ Err d → d ≡ stop.NoMemory → Ran s whole x x result
+lacks_first s whole x d result gives same =
+    stops_as s whole x x stop.NoMemory d result gives same (ran_nothing s whole x)
+
+-- memory lacks after all was made
+pub lacks_last : {A : Type 0} (s : Scope) (whole : Run A) (a : A) (x y : Option (List Asked))
+    (d : Stop) (result : Result A Stop) → CanRun s whole → Ran s whole x y (Ok a)
+    → result ≡ Err d → d ≡ stop.NoMemory → Ran s whole x y result
+lacks_last s whole a x y d result h ran gives same =
+    (let e : whole ≡ and_then whole (λ a. Some (Ok a, [])) = sym (then_gives whole) in
+    lacks s whole whole (λ a. Some (Ok a, [])) a x y d result e h ran gives same)
