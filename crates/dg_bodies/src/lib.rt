@@ -11,7 +11,6 @@ mod sets;
 mod site;
 mod trees;
 
-pub use operations::{failed, mistyped};
 pub use counters::NewsAndCalls;
 pub use parts::{elements, entry_value, entry_with, inside, production, value_if};
 pub use sets::set_of;

@@ -1,5 +1,5 @@
 -- The producer behind a slot, one step after another.
-use Rattle.std.proofs.Common.{◌≡◌, ◌≢◌, ◌<◌, ℕ, zero, suc, ◌-◌, Bool, true, false, cond, not, ◌||◌, List, [], ◌∷◌, slice_get, Contains, Option, Some, None, option_map, option_and_then, refl, sym, ap, subst, ◌∙◌, arith}
+use Rattle.std.proofs.Common.{◌≡◌, ◌≢◌, ◌<◌, ℕ, zero, suc, ◌-◌, Bool, true, false, cond, not, ◌||◌, List, [], slice_get, Contains, Option, Some, None, option_map, option_and_then, refl, sym, ap, subst, ◌∙◌, arith}
 use Rattle.std.specs.Option.{option_map_or}
 use Rattle.std.proofs.lemmas.Bool.{false≢true}
 use Rattle.std.proofs.lemmas.Option.{none-some, same_Some}
@@ -25,7 +25,7 @@ use Rattle.dg_eval.proofs.InputLists.{given_at}
 use Rattle.dg_eval.proofs.TargetLemmas.{target_is, first_shallow}
 use Rattle.dg_requests.specs.declared.context.Target.{Target}
 use Rattle.dg_requests.specs.Contexts.{IsContextOf, IsInputFor, as_look, is_kept, is_producing, gives_first_param, as_instance, passed_by, IsBound, WalksAreShort, IsProducerOf, IsBehind}
-use Rattle.dg_requests.proofs.ContextLemmas.{FindsTarget, finds_target, in_class_is}
+use Rattle.dg_requests.proofs.ContextLemmas.{finds_target, in_class_is}
 use Rattle.dg_requests.proofs.NodeKinds.{node_fits}
 use Rattle.dg_requests.proofs.Productions.{producer_is}
 use Rattle.dg_requests.proofs.Passing.{is_never, producing_cell, no_producer, takes_none, TakesOne, takes_one}
@@ -46,7 +46,7 @@ passed_parts false true o x e =
     let two = if_some (is_instance w.0.mode) w.0 x w.2 in
     (refl, refl, w.1 ∙ ap Some two.1, ap (λ (x : Input). is_instance x.mode) (sym two.1) ∙ two.0)
 
-input_mode : (doc : Doc) (n : Node) (d : Dependency) (x : Input) → input_of doc n d ≡ Some x
+pub input_mode : (doc : Doc) (n : Node) (d : Dependency) (x : Input) → input_of doc n d ≡ Some x
     → x.mode ≡ d.mode
 input_mode doc n d x e =
     let t = out_and_then _ (target d) x e in
@@ -274,14 +274,12 @@ step_is doc plan world of i k steps n x t is not_one some short may e leads =
       behind = step_behind doc i k n f.found t at not_producer first next.same;
     }
 
--- a binding is no entry, so no walk from it has more than 128 nodes
-pub bound_short : (doc : Doc) → IsAccepted doc → (k class : ℕ) (kind : NodeKind)
-    → node_at doc k ≡ Some (node_of class kind) → IsBound kind
-    → WalksAreShort doc 128 (node_of class kind)
-bound_short doc accepted k class (node.Bound b) is bound =
-    accepted_shallow doc (stages_of_accepted doc accepted) (node_of class (node.Bound b))
-    (in_got (nodes doc) k (node_of class (node.Bound b)) is) refl
-bound_short doc accepted k class other is bound = absurd bound
+-- no walk from a slot that is no entry has more than 128 nodes
+pub no_entry_short : (doc : Doc) → IsAccepted doc → (i k : ℕ) (n : Node) → node_in doc i k ≡ Some n
+    → is_entry n ≡ false → WalksAreShort doc 128 n
+no_entry_short doc accepted i k n is no_entry =
+    accepted_shallow doc (stages_of_accepted doc accepted) n
+    (in_got (nodes doc) k n (in_class_is doc i k n is).0) no_entry
 
 -- ---- what the code sees
 

@@ -28,7 +28,7 @@ use Rattle.dg_eval.specs.World.{constant, inst_at, class_of_inst, parent_of_inst
 use Rattle.dg_eval.specs.Meaning.{node_at, node_in, is_cell_node, is_cell, target_of}
 use Rattle.dg_eval.specs.Inputs.{counted_from, inst_led}
 use Rattle.dg_eval.proofs.InputLemmas.{inputs_are_look_ups}
-use Rattle.dg_requests.specs.Contexts.{IsContextOf, IsInputFor, of_class, slot_there, is_kept, is_kept_at, value_at, parent_at, counted_at}
+use Rattle.dg_requests.specs.Contexts.{IsContextOf, IsInputFor, slot_there, is_kept, is_kept_at, value_at, parent_at, counted_at}
 
 -- ---- slots
 
@@ -102,7 +102,7 @@ enumerated_at f m (x ∷ xs) (suc i) =
     enumerated_at f (m + 1) xs i
     ∙ ap (λ (k : ℕ). option_map (λ x. f (k, x)) (slice_get xs i)) e
 
-first_enumerated : {A B : Type 0} (f : (ℕ × A) → B) (xs : List A) (i : ℕ)
+pub first_enumerated : {A B : Type 0} (f : (ℕ × A) → B) (xs : List A) (i : ℕ)
     → slice_get (map f (enumerate_from 0 xs)) i ≡ option_map (λ x. f (i, x)) (slice_get xs i)
 first_enumerated f xs i =
     let e : 0 + i ≡ i = omega arith in
@@ -237,7 +237,7 @@ pub record FindsTarget (doc : Doc) (world : World) (i : ℕ) (n : Node) (d : Dep
   pub found : Node
   pub is_found : node_in doc inst x.slot ≡ Some found
 
-in_its_class : (doc : Doc) (i k : ℕ) (n : Node) → class_of_inst doc i ≡ Some n.class
+pub in_its_class : (doc : Doc) (i k : ℕ) (n : Node) → class_of_inst doc i ≡ Some n.class
     → node_at doc k ≡ Some n → node_in doc i k ≡ Some n
 in_its_class doc i k n class is =
     (λ j. option_and_then (λ (m : Node). cond (is_number m.class (class j)) (Some m) None) (is j))

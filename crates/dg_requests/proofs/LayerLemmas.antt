@@ -1,5 +1,5 @@
 -- What is asked for as the content of a cell or of a Lazy, over the evaluation at a depth.
-use Rattle.std.proofs.Common.{◌≡◌, ◌≢◌, ◌≤◌, ◌<◌, ◌-◌, ℕ, zero, suc, Bool, true, false, cond, List, [], ◌∷◌, ◌++◌, Option, Some, None, Result, Ok, Err, IfOk, option_map, Contains, refl, sym, ap, subst, ◌∙◌, append-nil, arith}
+use Rattle.std.proofs.Common.{◌≡◌, ◌≢◌, ◌≤◌, ◌-◌, ℕ, zero, suc, true, false, cond, List, [], ◌∷◌, Option, Some, None, Result, Ok, Err, IfOk, option_map, Contains, refl, sym, ap, subst, ◌∙◌, arith}
 use Rattle.std.proofs.lemmas.Option.{none-some}
 use Rattle.dg_types.specs.declared.memory.NoMemory.{NoMemory}
 use Rattle.dg_decl.specs.declared.document.Doc.{Doc}
@@ -18,12 +18,12 @@ use Rattle.dg_eval.specs.Runs.{Asked, cell, lazy, Run, gives, before, and_then, 
 use Rattle.dg_eval.specs.Meaning.{Eval, is_cell, cell_place, content, held, instance, lazy_content, look_at, look, eval, content_of, lazy_content_of}
 use Rattle.dg_eval.specs.World.{world_of}
 use Rattle.dg_eval.specs.Asks.{asked_by}
-use Rattle.dg_eval.proofs.RunGrowth.{Grows, stays}
+use Rattle.dg_eval.proofs.RunGrowth.{stays}
 use Rattle.dg_eval.proofs.GrowthLemmas.{eval_grows_to, content_grows, lazy_grows}
 use Rattle.dg_requests.specs.declared.stop.Stop.{Stop}
 use Rattle.dg_requests.specs.declared.stop.Stop.TheVariants as stop
 use Rattle.dg_requests.specs.Scopes.{Scope, IsClosed, IsFit, content_at, IsContent, AllUsed, Exactly, Told, Asks, Answers}
-use Rattle.dg_requests.specs.Results.{MayAsk, CanRun, Gave, AskedFor, Ran, result_of, held_of, held_at}
+use Rattle.dg_requests.specs.Results.{MayAsk, CanRun, Ran, result_of, held_of, held_at}
 use Rattle.dg_requests.specs.Contexts.{IsContextOf}
 use Rattle.dg_requests.proofs.RanLemmas.{can_as, can_rest, ran_as, ran_plain, ran_stops, ran_then}
 

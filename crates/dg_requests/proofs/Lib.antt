@@ -6,3 +6,7 @@ pub mod Passing
 pub mod Behind
 pub mod RanLemmas
 pub mod LayerLemmas
+pub mod AllRuns
+pub mod GivingLemmas
+pub mod CallLemmas
+pub mod Awaits

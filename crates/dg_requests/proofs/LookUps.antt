@@ -1,5 +1,5 @@
 -- What the look-up of a key leads to: of a base type a binding, of a set or map one, and so on.
-use Rattle.std.proofs.Common.{◌≡◌, ℕ, Bool, true, false, cond, not, List, [], ◌∷◌, filter_map, map, slice_get, Contains, Option, Some, None, option_map, option_and_then, refl, sym, ap, subst, ◌∙◌}
+use Rattle.std.proofs.Common.{◌≡◌, ℕ, Bool, true, false, cond, not, List, [], ◌∷◌, filter_map, map, slice_get, Contains, Option, Some, None, option_and_then, refl, subst}
 use Rattle.std.proofs.lemmas.Option.{none-some, same_Some}
 use Rattle.dg_lex.specs.Bytes.{Bytes}
 use Rattle.dg_types.specs.declared.shape.Qualifier.{Qualifier}
@@ -19,7 +19,7 @@ use Rattle.dg_decl.specs.declared.binding.Found.TheVariants as found
 use Rattle.dg_decl.specs.declared.graph.Node.{Node}
 use Rattle.dg_decl.specs.declared.graph.NodeKind.{NodeKind}
 use Rattle.dg_decl.specs.declared.graph.NodeKind.TheVariants as node
-use Rattle.dg_decl.specs.Names.{item_at, class_item_named, params_of, result_of}
+use Rattle.dg_decl.specs.Names.{item_at, class_item_named, params_of}
 use Rattle.dg_decl.specs.Components.{chain, carries, class_count, deps_of, entries_of}
 use Rattle.dg_decl.specs.Lookup.{explicit_in_chain, inside_key, contributions, is_optional_declared, injected_scope, injected_with, injected_item, injected_base, injected, found_of_core, find_without_explicit, found_among, find as find_key}
 use Rattle.dg_decl.specs.Graph.{node_of, mode_of_inner, inner_of, Dependency, asked, of_param, of_params, of_entry, of_binding, contribution_of, of_contributions, of_inside, is_nothing, deps, node_found, target, targets, nodes, entry_nodes}

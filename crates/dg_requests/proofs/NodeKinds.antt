@@ -1,6 +1,6 @@
 -- What stands behind the nodes of a document.
-use Rattle.std.proofs.Common.{◌≡◌, inl, inr, ℕ, zero, suc, ◌+◌, ◌==◌, Bool, true, false, cond, not, ◌||◌, List, [], ◌∷◌, ◌++◌, map, filter, filter_map, flat_map, slice_get, Contains, Option, Some, None, option_map, option_and_then, refl, sym, ap, subst, ◌∙◌, arith}
-use Rattle.std.specs.List.{position, range_with_len}
+use Rattle.std.proofs.Common.{◌≡◌, inl, inr, ℕ, zero, suc, ◌+◌, ◌==◌, Bool, true, false, cond, List, [], ◌∷◌, ◌++◌, map, filter, slice_get, Contains, Option, Some, None, option_map, refl, ap, subst, ◌∙◌, arith}
+use Rattle.std.specs.List.{range_with_len}
 use Rattle.std.proofs.lemmas.Bool.{false≢true, eq-eqb}
 use Rattle.std.proofs.lemmas.Option.{none-some, same_Some, slice_get-get_or}
 use Rattle.std.proofs.lemmas.List.Elements.{Contains-append_cases}
@@ -25,7 +25,6 @@ use Rattle.dg_decl.specs.Graph.{node_of, nodes, own_binding, own_argument, own_e
 use Rattle.dg_decl.proofs.GraphLemmas.{node_is_candidate}
 use Rattle.dg_decl.proofs.MemberLemmas.{none_in, the_one, out_map, in_filter, out_flat_map, out_if}
 use Rattle.dg_slots.specs.Numbered.{class_lines, number_of_class_item}
-use Rattle.dg_eval.specs.Meaning.{node_at}
 use Rattle.dg_eval.proofs.InputLists.{has_place}
 
 -- ---- the item of a statement

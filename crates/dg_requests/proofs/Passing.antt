@@ -1,15 +1,13 @@
 -- The producer behind a slot is that behind the slot which it passes on.
-use Rattle.std.proofs.Common.{◌≡◌, ◌≢◌, ◌<◌, inl, inr, ℕ, zero, suc, ◌-◌, ◌==◌, Bool, true, false, cond, not, ◌&&◌, ◌||◌, List, [], ◌∷◌, ◌++◌, filter_map, slice_get, Contains, Option, Some, None, option_map, option_and_then, refl, sym, ap, subst, ◌∙◌, arith}
+use Rattle.std.proofs.Common.{◌≡◌, ℕ, Bool, true, false, List, [], Contains, Option, Some, None, option_and_then, refl, sym, ap, subst, ◌∙◌}
 use Rattle.std.specs.Option.{option_map_or}
 use Rattle.std.proofs.lemmas.Bool.{false≢true}
-use Rattle.std.proofs.lemmas.Option.{none-some, same_Some}
+use Rattle.std.proofs.lemmas.Option.{none-some}
 use Rattle.dg_lex.specs.Bytes.{Bytes}
 use Rattle.dg_types.specs.Texts.{key_text}
 use Rattle.dg_types.specs.declared.key.Core.{Core}
 use Rattle.dg_types.specs.declared.key.Core.TheVariants as core
 use Rattle.dg_types.specs.declared.key.Key.{Key}
-use Rattle.dg_types.specs.declared.key.Mode.{Mode}
-use Rattle.dg_types.specs.declared.key.Mode.TheVariants as mode
 use Rattle.dg_decl.specs.declared.document.Doc.{Doc}
 use Rattle.dg_decl.specs.declared.binding.BindRef.{BindRef}
 use Rattle.dg_decl.specs.declared.binding.BindRef.TheVariants as binding
@@ -21,35 +19,27 @@ use Rattle.dg_decl.specs.declared.item.Item.TheVariants as item
 use Rattle.dg_decl.specs.declared.violation.Rule.TheVariants as rule
 use Rattle.dg_decl.specs.Diagnostics.{IsAccepted}
 use Rattle.dg_decl.specs.Names.{item_at}
-use Rattle.dg_decl.specs.Graph.{Dependency, deps, target, targets, node_of, nodes, number_of}
+use Rattle.dg_decl.specs.Graph.{Dependency, deps, target, node_of, nodes}
 use Rattle.dg_decl.specs.Sizes.{item_of_node, scope_of_item, scope_of, is_produces_item, is_producer, is_unscoped_binds, is_production}
 use Rattle.dg_decl.specs.Stages.Bindings.{at_request, missing_binding, duplicate_bindings, incompatibly_scoped_bindings, incompatibly_scoped_member, map_keys, is_provision_item, is_provision, is_production_found, depends_on_production, bindings_at, bindings_stage}
 use Rattle.dg_decl.proofs.GraphLemmas.{productions_by_short_walks, target_is_node}
-use Rattle.dg_decl.proofs.MemberLemmas.{none_in, in_front, the_one, in_filter_map, out_filter_map, out_option_map, out_and_then, in_got}
+use Rattle.dg_decl.proofs.MemberLemmas.{the_one, in_filter_map, out_filter_map}
 use Rattle.dg_slots.specs.declared.body.NExpr.{NExpr, out-NExpr}
 use Rattle.dg_slots.specs.declared.body.NExpr.TheVariants as nexpr
 use Rattle.dg_slots.specs.declared.body.NCond.TheOpen.{NExpr-F}
 use Rattle.dg_slots.specs.declared.body.NCond.TheViews.{out-roll-NExpr}
-use Rattle.dg_slots.specs.declared.body.NTree.{NTree, out-NTree}
+use Rattle.dg_slots.specs.declared.body.NTree.{out-NTree}
 use Rattle.dg_slots.specs.declared.body.NTree.TheVariants as ntree
 use Rattle.dg_slots.specs.declared.body.NTree.TheOpen.{NTree-F}
 use Rattle.dg_slots.specs.declared.body.NTree.TheViews.{out-roll-NTree}
 use Rattle.dg_slots.specs.declared.plan.CellKind.TheVariants as cell
-use Rattle.dg_slots.specs.declared.plan.Input.{Input}
-use Rattle.dg_slots.specs.declared.plan.Slot.{Slot}
-use Rattle.dg_slots.specs.Plans.{one_param, body_of_item, body_of_binding, body_of_multi, body_of_node, cell_of, input_of, inputs_of, slot_of}
-use Rattle.dg_eval.specs.Runs.{Run, gives, mistyped}
-use Rattle.dg_eval.specs.World.{class_of_inst}
-use Rattle.dg_eval.specs.Meaning.{node_at, node_in, Target as Look, target_of, is_instance, first_target, producer_from}
+use Rattle.dg_slots.specs.Plans.{one_param, body_of_item, body_of_binding, body_of_multi, body_of_node, cell_of}
 use Rattle.dg_eval.proofs.AcceptedDepth.{stages_of_accepted, nil_left, nil_right, flat_nil}
-use Rattle.dg_eval.proofs.InputLemmas.{each_given}
-use Rattle.dg_eval.proofs.InputLists.{given_at}
 use Rattle.dg_eval.proofs.InstanceLemmas.{none_there}
-use Rattle.dg_requests.specs.declared.context.Target.{Target}
-use Rattle.dg_requests.specs.Contexts.{as_look, is_kept, is_producing, is_first_param_at, gives_first_param_at, gives_first_param, as_instance, passed_by, IsBound, IsProducerOf, IsBehind}
+use Rattle.dg_requests.specs.Contexts.{is_kept, is_producing, is_first_param_at, gives_first_param_at, gives_first_param, IsBound}
 use Rattle.dg_requests.proofs.NodeKinds.{IsMember, IsInjected, BindingFits, KindFits, node_fits}
 use Rattle.dg_requests.proofs.LookUps.{IsFoundAs, needs_lead}
-use Rattle.dg_requests.proofs.Productions.{producer_is, passed_production, production_passes, Passes, passed_to, to_passed, OneInstance, passing_one}
+use Rattle.dg_requests.proofs.Productions.{passed_production, production_passes, Passes, passed_to, to_passed, OneInstance, passing_one}
 
 -- ---- cells
 
@@ -159,7 +149,7 @@ unfolding depends_on_production
 rule_is doc class b d c h f =
     in_filter_map _ (deps doc (node_of class (node.Bound b))) d _ c (rw (h, f) refl)
 
-rule_holds : (doc : Doc) → IsAccepted doc → (n : Node) → Contains (nodes doc) n
+pub rule_holds : (doc : Doc) → IsAccepted doc → (n : Node) → Contains (nodes doc) n
     → depends_on_production doc n ≡ []
 unfolding bindings_stage bindings_at
 rule_holds doc accepted n among =
@@ -269,7 +259,7 @@ pub record TakesOne (doc : Doc) (n : Node) : Type 0 where
   pub production : is_production doc to ≡ true
   pub bound : IsBound to.kind
 
-bound_only : (c : Core) (k : NodeKind) (b : _) → c ≡ core.One b → IsFoundAs c k → IsBound k
+pub bound_only : (c : Core) (k : NodeKind) (b : _) → c ≡ core.One b → IsFoundAs c k → IsBound k
 bound_only c (node.Bound r) b e h = tt
 bound_only c (node.Multi key) b e h =
     let P : Core → Type 0 = λ c. IsFoundAs c (node.Multi key) in (subst P e h).0

@@ -1,6 +1,6 @@
 -- In an accepted document a production that isn't a producer is passed on by the slot of an exposed
 -- entry or an unscoped `binds` line, from its one dependency.
-use Rattle.std.proofs.Common.{◌≡◌, ◌⊎◌, inl, inr, ℕ, zero, suc, ◌+◌, ◌==◌, Bool, true, false, cond, not, ◌&&◌, ◌||◌, is_some, List, [], ◌∷◌, map, filter, filter_map, slice_get, Contains, Option, Some, None, option_map, option_and_then, option_to_list, refl, sym, ap, subst, ◌∙◌, arith}
+use Rattle.std.proofs.Common.{◌≡◌, ◌⊎◌, inl, inr, ℕ, suc, ◌+◌, Bool, true, false, cond, not, is_some, List, [], ◌∷◌, filter_map, slice_get, Contains, Option, Some, None, option_map, option_and_then, option_to_list, refl, sym, ap, subst, ◌∙◌, arith}
 use Rattle.std.specs.List.{cons_option, enumerate_from}
 use Rattle.std.specs.Option.{option_map_or}
 use Rattle.std.proofs.lemmas.Bool.{false≢true}
@@ -15,7 +15,7 @@ use Rattle.dg_types.specs.declared.key.Mode.{Mode}
 use Rattle.dg_types.specs.declared.key.Mode.TheVariants as mode
 use Rattle.dg_types.specs.declared.key.Request.{Request}
 use Rattle.dg_types.specs.declared.shape.Qualifier.{Qualifier}
-use Rattle.dg_types.specs.declared.shape.Shape.{Shape, out-Shape}
+use Rattle.dg_types.specs.declared.shape.Shape.{out-Shape}
 use Rattle.dg_types.specs.declared.shape.Shape.TheOpen.{Shape-F}
 use Rattle.dg_types.specs.declared.shape.TypeUse.{TypeUse}
 use Rattle.dg_types.specs.Requests.{Layer, Asked, base_at, base_of, plain_at, plain_of, producing_of, first_of_two, asked_of, request_of}
@@ -24,7 +24,6 @@ use Rattle.dg_decl.specs.declared.binding.BindRef.{BindRef}
 use Rattle.dg_decl.specs.declared.binding.BindRef.TheVariants as binding
 use Rattle.dg_decl.specs.declared.component.Exposed.{Exposed}
 use Rattle.dg_decl.specs.declared.graph.Node.{Node}
-use Rattle.dg_decl.specs.declared.graph.NodeKind.{NodeKind}
 use Rattle.dg_decl.specs.declared.graph.NodeKind.TheVariants as node
 use Rattle.dg_decl.specs.declared.item.Item.{Item}
 use Rattle.dg_decl.specs.declared.item.Item.TheVariants as item
@@ -34,10 +33,10 @@ use Rattle.dg_decl.specs.Diagnostics.{IsAccepted}
 use Rattle.dg_decl.specs.Walks.{IsReached, root, step}
 use Rattle.dg_decl.specs.Names.{item_at, params_of, result_of}
 use Rattle.dg_decl.specs.Components.{deps_of, entries_of, plain_instance, exposed_key, exposed_as, exposed_of}
-use Rattle.dg_decl.specs.Graph.{Dependency, asked, of_param, of_entry, deps, target, targets, node_of, nodes}
-use Rattle.dg_decl.specs.Sizes.{item_of_node, scope_of, is_producer, is_unscoped_binds, passed_on, IsProduction, is_production}
-use Rattle.dg_decl.specs.Stages.Types.{Placed, is_base_use, types_of}
-use Rattle.dg_decl.proofs.GraphLemmas.{productions_by_short_walks, target_is_node}
+use Rattle.dg_decl.specs.Graph.{Dependency, asked, of_param, of_entry, deps, targets, node_of, nodes}
+use Rattle.dg_decl.specs.Sizes.{is_producer, is_unscoped_binds, passed_on, IsProduction, is_production}
+use Rattle.dg_decl.specs.Stages.Types.{is_base_use, types_of}
+use Rattle.dg_decl.proofs.GraphLemmas.{productions_by_short_walks}
 use Rattle.dg_decl.proofs.MemberLemmas.{none_in, in_front, first_or_rest, the_one, out_flat_map, out_filter_map, out_option_map, out_and_then, out_if, in_if}
 use Rattle.dg_eval.proofs.AcceptedDepth.{stages_of_accepted, not_nil}
 use Rattle.dg_eval.proofs.CallLemmas.{item_fits}

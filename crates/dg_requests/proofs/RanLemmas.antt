@@ -30,7 +30,7 @@ used_back doc xs ys more h y c =
     let k = h y c in
     (k.0, Contains-append_right xs ys k.0 k.1, k.2)
 
-used_join : (doc : Doc) (xs ys m n : List Asked) → AllUsed doc xs m → AllUsed doc ys n
+pub used_join : (doc : Doc) (xs ys m n : List Asked) → AllUsed doc xs m → AllUsed doc ys n
     → AllUsed doc (xs ++ ys) (m ++ n)
 used_join doc xs ys m n h k y c =
     elim (Contains-append_cases m n y c) [
@@ -38,7 +38,7 @@ used_join doc xs ys m n h k y c =
       | inr b ↦ used_back doc xs ys n k y b
     ]
 
-exactly_join : (doc : Doc) (xs ys m n : List Asked) → Exactly doc xs m → Exactly doc ys n
+pub exactly_join : (doc : Doc) (xs ys m n : List Asked) → Exactly doc xs m → Exactly doc ys n
     → Exactly doc (xs ++ ys) (m ++ n)
 exactly_join doc xs ys m n h k = record {
   used = used_join doc xs ys m n h.used k.used;
@@ -48,7 +48,7 @@ exactly_join doc xs ys m n h k = record {
   ];
 }
 
-told_join : (P Q R : List Asked → Type 0) (x y z : Option (List Asked)) → ((m n : List Asked)
+pub told_join : (P Q R : List Asked → Type 0) (x y z : Option (List Asked)) → ((m n : List Asked)
     → P m → Q n → R (m ++ n)) → Told x y P → Told y z Q → Told x z R
 told_join P Q R None y z f h k = tt
 told_join P Q R (Some x) None z f h k = absurd h
@@ -56,7 +56,7 @@ told_join P Q R (Some x) (Some y) None f h k = absurd k
 told_join P Q R (Some x) (Some y) (Some z) f h k =
     (h.0 ++ k.0, k.1 ∙ ap (λ w. w ++ k.0) h.1 ∙ append_assoc x h.0 k.0, f h.0 k.0 h.2 k.2)
 
-told_weaker : (P R : List Asked → Type 0) (x y : Option (List Asked))
+pub told_weaker : (P R : List Asked → Type 0) (x y : Option (List Asked))
     → ((m : List Asked) → P m → R m) → Told x y P → Told x y R
 told_weaker P R None y f h = tt
 told_weaker P R (Some x) None f h = absurd h
@@ -108,7 +108,7 @@ pub ran_as : {A : Type 0} (s : Scope) (q r : Run A) (x y : Option (List Asked))
     → q ≡ r → Ran s q x y result → Ran s r x y result
 ran_as {A} s q r x y result e h = subst (λ (z : Run A). Ran s z x y result) e h
 
-none_asked : (x : Asked) → Contains [] x → ⊥
+pub none_asked : (x : Asked) → Contains [] x → ⊥
 none_asked x c = absurd (omega (arith, c.1))
 
 none_used : (doc : Doc) → AllUsed doc [] []

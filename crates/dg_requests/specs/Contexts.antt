@@ -8,7 +8,7 @@ use Rattle.dg_decl.specs.declared.graph.NodeKind.{NodeKind}
 use Rattle.dg_decl.specs.declared.graph.NodeKind.TheVariants as node
 use Rattle.dg_decl.specs.Diagnostics.{IsAccepted}
 use Rattle.dg_decl.specs.Graph.{Dependency, deps, needed_targets}
-use Rattle.dg_decl.specs.Sizes.{is_production}
+use Rattle.dg_decl.specs.Sizes.{is_entry, is_production}
 use Rattle.dg_decl.specs.Components.{is_number}
 use Rattle.dg_slots.specs.declared.body.NExpr.{NExpr, out-NExpr}
 use Rattle.dg_slots.specs.declared.body.NCond.{NCond}
@@ -23,7 +23,10 @@ use Rattle.dg_slots.specs.declared.plan.Input.{Input}
 use Rattle.dg_slots.specs.declared.plan.Plan.{Plan}
 use Rattle.dg_slots.specs.declared.plan.Slot.{Slot}
 use Rattle.dg_slots.specs.Plans.{inputs_of, plan_of}
-use Rattle.dg_value.specs.declared.value.Value.{Value}
+use Rattle.dg_value.specs.declared.place.PlaceStep.{PlaceStep}
+use Rattle.dg_value.specs.declared.place.PlaceStep.TheVariants as step
+use Rattle.dg_value.specs.declared.value.Kept.TheOpen.{Value-F}
+use Rattle.dg_value.specs.declared.value.Value.{Value, out-Value}
 use Rattle.dg_eval.specs.declared.world.World.{World}
 use Rattle.dg_eval.specs.Runs.{gives}
 use Rattle.dg_eval.specs.World.{world_of}
@@ -93,6 +96,13 @@ abbrev pub gives_first_param_at : NTree-F NTree → Bool
 gives_first_param_at (NTree-F.Leaf e) = is_first_param_at (out-NExpr e)
 gives_first_param_at other = false
 
+-- the step from the place of a slot to that of its input of this number, counted from 1
+abbrev pub step_of : Body → ℕ → PlaceStep
+step_of (body.Set flags) m = step.Elem m
+step_of (body.Map keys) m = step.Elem m
+step_of (body.Opt present) m = step.Inside
+step_of other m = step.Arg m
+
 -- a body gives its first parameter
 abbrev pub gives_first_param : Body → Bool
 gives_first_param (body.Run t) = gives_first_param_at (out-NTree t)
@@ -127,3 +137,14 @@ IsProducerOf doc i k t =
 pub record IsBehind (doc : Doc) (i k : ℕ) (n : Node) (o : Option Target) : Type 0 where
   pub none : is_production doc n ≡ false → o ≡ None
   pub some : is_production doc n ≡ true → (t : Target) × (o ≡ Some t) × IsProducerOf doc i k t
+
+-- an `await` may lead to a slot: it is no entry, and what a binding gives where it is a production
+abbrev pub LeadsOn : Doc → ℕ → ℕ → Type 0
+LeadsOn doc i k =
+    (n : Node) × (node_in doc i k ≡ Some n) × (is_entry n ≡ false)
+    × (is_production doc n ≡ true → IsBound n.kind)
+
+-- a value that is awaited is a way to a slot that is no entry, and, where it is a production, to
+-- what a binding gives
+pub record AwaitFits (doc : Doc) (v : Value) : Type 0 where
+  pub way : (i k : ℕ) → out-Value v ≡ Value-F.Provider i k → LeadsOn doc i k

@@ -1,5 +1,5 @@
 -- What a call of the evaluator has to do with the run that it makes.
-use Rattle.std.specs.Prelude.{◌≡◌, ℕ, List, Option, Some, None, Result, Ok, Err, Contains, option_map}
+use Rattle.std.specs.Prelude.{◌≡◌, ℕ, List, [], ◌∷◌, ◌++◌, Option, Some, None, Result, Ok, Err, Contains, option_map}
 use Rattle.dg_types.specs.declared.memory.NoMemory.{NoMemory}
 use Rattle.dg_decl.specs.declared.document.Doc.{Doc}
 use Rattle.dg_value.specs.declared.value.Kept.{Kept}
@@ -9,6 +9,9 @@ use Rattle.dg_value.specs.declared.value.Value.TheVariants as value
 use Rattle.dg_value.specs.declared.value.Kept.TheOpen.{Value-F}
 use Rattle.dg_value.specs.Same.{Layer}
 use Rattle.dg_eval.specs.Runs.{Asked, Run, asks_of}
+use Rattle.dg_eval.specs.Bodies.{End as Ending, value_end, producer_end}
+use Rattle.dg_requests.specs.declared.calls.End.{End}
+use Rattle.dg_requests.specs.declared.calls.End.TheVariants as end
 use Rattle.dg_requests.specs.declared.stop.Stop.{Stop}
 use Rattle.dg_requests.specs.declared.stop.Stop.TheVariants as stop
 use Rattle.dg_requests.specs.Scopes.{Scope, AllUsed, Exactly, Told}
@@ -59,3 +62,29 @@ held_of i k (Err e) = Err e
 abbrev pub held_at : Layer → Option (ℕ × ℕ)
 held_at (Value-F.Held i k) = Some (i, k)
 held_at other = None
+
+-- the outcome of what an evaluation came to, unless memory lacks
+abbrev pub BecomesOutcome : Result Value Stop → Result Value Stop → Type 0
+BecomesOutcome came (Ok v) = (k : Kept) × (v ≡ value.Outcome k) × (result_of (Ok k) ≡ came)
+BecomesOutcome came (Err e) = e ≡ stop.NoMemory
+
+-- a result is this one, or memory lacks
+abbrev pub IsOrLacks : {A : Type 0} → Result A Stop → Result A Stop → Type 0
+IsOrLacks wanted (Err stop.NoMemory) = Unit {0}
+IsOrLacks wanted other = other ≡ wanted
+
+-- some values, and what is given next; the first failure of a body is that of the whole
+abbrev pub joined : Result (List Value) Stop → Result Value Stop → Result (List Value) Stop
+joined (Ok vs) (Ok v) = Ok (vs ++ v ∷ [])
+joined (Ok vs) (Err e) = Err e
+joined (Err e) (Err stop.NoMemory) = Err stop.NoMemory
+joined (Err e) other = Err e
+
+-- where a decision tree ends, as the definitions have it
+abbrev pub as_end : End → Ending
+as_end (end.Value v) = value_end v
+as_end (end.Producer i k) = producer_end i k
+
+abbrev pub ends : Result End Stop → Result Ending Stop
+ends (Ok e) = Ok (as_end e)
+ends (Err e) = Err e

@@ -1,12 +1,12 @@
 //! What is looked up by number, in the plan of a document and its world.
 
-ghost use Rattle.std.specs.Prelude.{◌≡◌, ◌<◌, ℕ, true, Option, Some, IsSome, option_map, option_and_then, slice_get};
+ghost use Rattle.std.specs.Prelude.{◌≡◌, ◌<◌, ℕ, true, false, Option, Some, IsSome, option_map, option_and_then, slice_get};
 ghost use Rattle.std.specs.Option.{option_copied, option_map_or};
 ghost use Rattle.dg_decl.specs.declared.document.Doc.{Doc};
 ghost use Rattle.dg_decl.specs.declared.graph.Node.{Node};
 ghost use Rattle.dg_decl.specs.Components.{walk};
 ghost use Rattle.dg_decl.specs.Graph.{Dependency};
-ghost use Rattle.dg_decl.specs.Sizes.{is_production};
+ghost use Rattle.dg_decl.specs.Sizes.{is_entry, is_production};
 ghost use Rattle.dg_slots.specs.declared.plan.Plan.{Plan as plan_type};
 ghost use Rattle.dg_slots.specs.Plans.{slot_of};
 ghost use Rattle.dg_eval.specs.declared.world.World.{World as world_type};
@@ -224,8 +224,8 @@ fn producer_within(plan: &Plan, world: &World, at: Target, steps: u32) -> Option
 /// The producer to which an `await` of a slot leads, where the slot is a production: none else.
 pub fn producer_behind(plan: &Plan, world: &World, inst: u32, slot: u32) -> Option<Target>
     ensures exact { (doc : Doc) → IsContextOf doc plan.now world.now → (n : Node)
-        → meaning.node_in doc inst slot ≡ Some n → IsBound n.kind
-        → IsBehind doc inst slot n result }
+        → meaning.node_in doc inst slot ≡ Some n → is_entry n ≡ false
+        → (is_production doc n ≡ true → IsBound n.kind) → IsBehind doc inst slot n result }
 {
     producer_within(plan, world, Target { inst, slot }, 128)
 }

@@ -30,7 +30,7 @@ impl InScope for Brand {
 }
 
 /// The result of an evaluation as what is kept.
-fn to_keep(result_below: Result<Value, Stop>) -> Result<Kept, NoMemory>
+pub(crate) fn to_keep(result_below: Result<Value, Stop>) -> Result<Kept, NoMemory>
     ensures exact { result_of result ≡ result_below }
 {
     match result_below {

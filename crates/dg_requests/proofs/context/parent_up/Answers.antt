@@ -1,4 +1,4 @@
-use Rattle.std.proofs.Common.{◌≡◌, ◌≤◌, ◌+◌, ◌∙◌, ℕ, Option, Some, None, List, slice_get, sym, ap, arith}
+use Rattle.std.proofs.Common.{◌≡◌, ◌≤◌, ◌+◌, ◌∙◌, Some, None, slice_get, sym, ap, arith}
 use Rattle.dg_decl.specs.Components.{walk}
 use Rattle.dg_requests.specs.Contexts.{parent_at}
 use Rattle.dg_requests.proofs.ContextLemmas.{goes_on, goes_to, goes_nowhere}
