@@ -15,6 +15,7 @@ use Rattle.dg_value.specs.declared.value.Value.{Value}
 use Rattle.dg_eval.specs.Bodies.{Part, chosen, by_param, expr_part, cond_part, tree_part}
 use Rattle.dg_bodies.specs.declared.counters.NewsAndCalls.{NewsAndCalls}
 use Rattle.dg_bodies.specs.Counts.{one_new, one_call, after, row}
+use Rattle.dg_bodies.specs.Sites.{looked_part, pair_part}
 use Rattle.dg_bodies.proofs.PartForms.{part_text, part_int, part_param, new_of, part_new, part_field, part_sum, part_if, part_call, part_by_name, part_or_else, part_equal, part_less, part_has, part_is_ok, part_leaf, part_await, part_choice}
 
 abbrev so_many : ℕ → ℕ → NewsAndCalls
@@ -224,3 +225,21 @@ after_choice c a b at =
     ∙ after_chosen (cond_part c) (tree_part a) (tree_part b) at
 
 pub ruleset trees = (after_leaf, after_await, after_choice)
+
+-- ---- parts that are looked at
+
+pub after_looked : (p : Part Value) (at : NewsAndCalls) → after (looked_part p) at ≡ after p at
+after_looked p at = after_same (looked_part p) p at refl refl
+
+pub after_pair : (a b : Part Value) (at : NewsAndCalls)
+    → after (pair_part a b) at ≡ after (looked_part b) (after (looked_part a) at)
+after_pair a b at =
+    after_join (looked_part a) (looked_part b) (pair_part a b) at refl
+    (length-append a.called b.called)
+
+-- after both parts, as the whole counts them
+pub after_both : (a b : Part Value) (at : NewsAndCalls)
+    → after (pair_part a b) at ≡ after b (after a at)
+after_both a b at =
+    after_pair a b at ∙ after_looked b (after (looked_part a) at)
+    ∙ ap (λ (u : NewsAndCalls). after b u) (after_looked a at)

@@ -1,3 +1,5 @@
+pub mod EntryLemmas
+pub mod RowLemmas
 pub mod Steps
 pub mod PlainRuns
 pub mod PartRuns

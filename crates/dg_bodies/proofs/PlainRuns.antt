@@ -1,6 +1,7 @@
 -- Operations on values that aren't held ask for nothing.
-use Rattle.std.proofs.Common.{◌≡◌, Bool, true, false, cond, List, [], Option, Some, None, Result, Ok, Err, refl, ℕ}
-use Rattle.std.specs.Prelude.{ℤ}
+use Rattle.std.proofs.Common.{◌≡◌, Bool, true, false, cond, List, [], Option, Some, None, Result, Ok, Err, refl, subst, ℕ}
+use Rattle.std.specs.Prelude.{ℤ, ◌+ℤ◌, codes, nat_lt, length, ◌++◌}
+use Rattle.dg_value.specs.declared.value.Value.TheVariants as value
 use Rattle.std.specs.Option.{option_map_or}
 use Rattle.dg_lex.specs.Bytes.{Bytes}
 use Rattle.dg_decl.specs.declared.expression.CallName.{CallName}
@@ -9,8 +10,8 @@ use Rattle.dg_value.specs.declared.value.Kept.{Kept, out-Kept}
 use Rattle.dg_value.specs.declared.value.Kept.TheOpen.{Kept-F, Value-F}
 use Rattle.dg_value.specs.declared.value.Value.{Value, out-Value}
 use Rattle.dg_value.specs.Same.{Layer}
-use Rattle.dg_eval.specs.Runs.{Asked, Run, and_then, mistyped, asks_of}
-use Rattle.dg_eval.specs.Operations.{or_mistyped, int_in, text_in, field_in, field_at, is_in_range, sum_of, with_two, sum_in, less_in, equal_at, equal_in, all_in, text_within, text_limit, cat_of, cat_in, decimal_of, size_at, fail_of, kept_in, value_of_kept, value_in, failure_in, is_ok_in, inside_in, has_in}
+use Rattle.dg_eval.specs.Runs.{Asked, Run, gives, failed, and_then, mistyped, asks_of}
+use Rattle.dg_eval.specs.Operations.{or_mistyped, only_of, int_in, text_in, field_in, field_at, is_in_range, sum_of, with_two, sum_in, less_in, equal_at, equal_in, all_in, text_within, text_limit, joined, cat_of, cat_in, decimal_of, size_at, fail_of, kept_in, value_of_kept, value_in, failure_in, is_ok_in, inside_in, has_in}
 use Rattle.dg_eval.specs.Meaning.{param_in}
 use Rattle.dg_requests.specs.declared.stop.Stop.{Stop}
 use Rattle.dg_requests.specs.Scopes.{Scope}
@@ -53,7 +54,8 @@ plain_two (Some a) (Some b) f h = h a b
 pub plain_sum : (origin : ℕ) (v w : Value) → IsPlain (sum_in origin v w)
 plain_sum origin v w =
     plain_two (int_in v) (int_in w) (sum_of origin)
-    (λ a b. plain_if (is_in_range _) _ _ (record { asks = refl }) (record { asks = refl }))
+    (λ a b. plain_if (is_in_range (a +ℤ b)) (gives (value.Int (a +ℤ b)))
+    (failed origin (codes "overflow")) (record { asks = refl }) (record { asks = refl }))
 
 pub plain_less : (v w : Value) → IsPlain (less_in v w)
 plain_less v w = plain_two (int_in v) (int_in w) _ (λ a b. record { asks = refl })
@@ -71,7 +73,9 @@ plain_field k v = plain_or (field_at k (out-Value v))
 
 plain_cat_of : (origin : ℕ) (o : Option (List Bytes)) → IsPlain (cat_of origin o)
 plain_cat_of origin None = record { asks = refl }
-plain_cat_of origin (Some ts) = plain_if _ _ _ (record { asks = refl }) (record { asks = refl })
+plain_cat_of origin (Some ts) =
+    plain_if (nat_lt text_limit (length (joined ts))) (failed origin (codes "text too long"))
+    (gives (value.Text (joined ts))) (record { asks = refl }) (record { asks = refl })
 
 pub plain_cat : (origin : ℕ) (vs : List Value) → IsPlain (cat_in origin vs)
 plain_cat origin vs = plain_cat_of origin (all_in text_in vs)
@@ -123,3 +127,29 @@ plain_param vs p = plain_or _
 
 pub plain_inside : (v : Value) → IsPlain (or_mistyped (inside_in v))
 plain_inside v = plain_or (inside_in v)
+
+-- ---- over the parts of a site
+
+-- what is made of a parameter of these
+pub ran_over : {A : Type 0} (s : Scope) (ps params : List Value) (f : List Value → Run A)
+    → (x : Option (List Asked)) (result : Result A Stop) → ps ≡ params → IsPlain (f ps)
+    → Gave (f ps) result → Ran s (f params) x x result
+ran_over {A} s ps params f x result same plain gave =
+    subst (λ (l : List Value). Ran s (f l) x x result) same (ran_made s (f ps) x result plain gave)
+
+-- what is made in the body of this slot
+pub ran_in : {A : Type 0} (s : Scope) (slot origin : ℕ) (f : ℕ → Run A)
+    → (x : Option (List Asked)) (result : Result A Stop) → slot ≡ origin → IsPlain (f slot)
+    → Gave (f slot) result → Ran s (f origin) x x result
+ran_in {A} s slot origin f x result same plain gave =
+    subst (λ (n : ℕ). Ran s (f n) x x result) same (ran_made s (f slot) x result plain gave)
+
+pub plain_only : (vs : List Value) → IsPlain (or_mistyped (only_of vs))
+plain_only vs = plain_or (only_of vs)
+
+pub ran_cat : (s : Scope) (slot origin : ℕ) (vs ws : List Value) (x : Option (List Asked))
+    → (result : Result Value Stop) → slot ≡ origin → vs ≡ ws → Gave (cat_in slot vs) result
+    → Ran s (cat_in origin ws) x x result
+ran_cat s slot origin vs ws x result same equal gave =
+    subst (λ (l : List Value). Ran s (cat_in origin l) x x result) equal
+    (ran_in s slot origin (λ n. cat_in n vs) x result same (plain_cat slot vs) gave)

@@ -1,9 +1,12 @@
 -- A run that is another one and what goes on with its result.
-use Rattle.std.proofs.Common.{◌≡◌, List, [], Option, Some, None, Result, Ok, Err, sym, ap, subst, ◌∙◌}
+use Rattle.std.proofs.Common.{◌≡◌, List, [], Option, Some, None, Result, Ok, Err, refl, sym, ap, subst, ◌∙◌}
 use Rattle.std.specs.Result.{OnOk}
 use Rattle.dg_lex.specs.Bytes.{Bytes}
 use Rattle.std.specs.Prelude.{ℕ}
-use Rattle.dg_eval.specs.Runs.{Asked, Run, and_then, failed, asks_of}
+use Rattle.dg_eval.specs.Runs.{Asked, Run, gives, and_then}
+use Rattle.dg_types.specs.declared.memory.NoMemory.{NoMemory}
+use Rattle.dg_value.specs.declared.value.Value.{Value}
+use Rattle.dg_bodies.specs.Made.{pair_with, when_counted}
 use Rattle.dg_requests.specs.declared.stop.Stop.{Stop}
 use Rattle.dg_requests.specs.declared.stop.Stop.TheVariants as stop
 use Rattle.dg_requests.specs.Scopes.{Scope}
@@ -58,3 +61,46 @@ pub lacks_last : {A : Type 0} (s : Scope) (whole : Run A) (a : A) (x y : Option 
 lacks_last s whole a x y d result h ran gives same =
     (let e : whole ≡ and_then whole (λ a. Some (Ok a, [])) = sym (then_gives whole) in
     lacks s whole whole (λ a. Some (Ok a, [])) a x y d result e h ran gives same)
+
+-- what holds whatever the result is
+pub on_ok : {A : Type 0} (r : Result A Stop) (P : Type 0) → P → OnOk r P
+on_ok (Ok a) P h = h
+on_ok (Err e) P h = tt
+
+-- what is handed on in a value of its own
+as_given : {A : Type 0} (s : Scope) (r : Run A) (x y : Option (List Asked))
+    → (given result : Result A Stop) → result ≡ given → Ran s r x y given → Ran s r x y result
+as_given {A} s r x y given result e h =
+    subst (λ (u : Result A Stop). Ran s r x y u) (sym e) h
+
+pub ran_paired : (s : Scope) (r : Run Value) (v : Value) (x y : Option (List Asked))
+    → (second : Result Value Stop) (result : Result (Value × Value) Stop)
+    → CanRun s (and_then r (λ w. gives (v, w))) → Ran s r x y second
+    → result ≡ pair_with v second → Ran s (and_then r (λ w. gives (v, w))) x y result
+ran_paired s r v x y (Ok w) result can ran is =
+    let next : Value → Run (Value × Value) = λ w. gives (v, w) in
+    as_given s (and_then r next) x y (Ok (v, w)) result is
+    (ran_then s r next w x y y (Ok (v, w)) can ran (ran_plain s (next w) y (Ok (v, w)) refl refl))
+ran_paired s r v x y (Err e) result can ran is =
+    let next : Value → Run (Value × Value) = λ w. gives (v, w) in
+    as_given s (and_then r next) x y (Err e) result is (ran_stops s r next e x y can ran)
+
+pub on_paired : (v : Value) (second : Result Value Stop) (result : Result (Value × Value) Stop)
+    → (P : Type 0) → OnOk second P → result ≡ pair_with v second → OnOk result P
+on_paired v (Ok w) result P h is =
+    subst (λ (u : Result (Value × Value) Stop). OnOk u P) (sym is) h
+on_paired v (Err e) result P h is =
+    subst (λ (u : Result (Value × Value) Stop). OnOk u P) (sym is) tt
+
+pub ran_passed : {A : Type 0} (s : Scope) (r : Run A) (a : A) (x y : Option (List Asked))
+    → (counted : Result (Unit {0}) NoMemory) (result : Result A Stop) → CanRun s r
+    → Ran s r x y (Ok a) → result ≡ when_counted a counted → Ran s r x y result
+ran_passed s r a x y (Ok u) result can ran is = as_given s r x y (Ok a) result is ran
+ran_passed s r a x y (Err e) result can ran is =
+    lacks_last s r a x y stop.NoMemory result can ran is refl
+
+pub on_passed : {A : Type 0} (a : A) (counted : Result (Unit {0}) NoMemory)
+    → (result : Result A Stop) (P : Type 0) → OnOk counted P → result ≡ when_counted a counted
+    → OnOk result P
+on_passed {A} a (Ok u) result P h is = subst (λ (r : Result A Stop). OnOk r P) (sym is) h
+on_passed {A} a (Err e) result P h is = subst (λ (r : Result A Stop). OnOk r P) (sym is) tt

@@ -17,12 +17,12 @@ ghost use Rattle.dg_bodies.specs.Counts.{after};
 ghost use Rattle.dg_bodies.specs.Sites.{seen, run_at, applied_to};
 
 use crate::counters::{NewsAndCalls, next_call};
-use crate::operations::{self, mistyped};
+use crate::operations;
 use crate::params::{param, param_failure, param_value};
 use crate::sets::{look_all, set_of, values_in};
 use crate::site::Site;
 use dg_decl::{CallName, ParamCall};
-use dg_requests::{Below, Cells, InScope, Stop, got, look};
+use dg_requests::{Below, Cells, InScope, Stop, got, look, mistyped};
 use dg_value::{PlaceStep, Value};
 use std::alloc::Global;
 

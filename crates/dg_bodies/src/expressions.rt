@@ -4,8 +4,6 @@
 ghost use Rattle.std.specs.Prelude.{◌≡◌, ◌≤◌, OnOk, IfOk, map};
 ghost use Rattle.dg_slots.specs.declared.body.NCond.TheVariants as ncond;
 ghost use Rattle.dg_slots.specs.declared.body.NExpr.TheVariants as nexpr;
-ghost use Rattle.dg_value.specs.declared.value.Value.TheVariants as value;
-ghost use Rattle.dg_eval.specs.Bodies as bodies;
 ghost use Rattle.dg_eval.specs.Bodies.{expr_part, cond_part};
 ghost use Rattle.dg_eval.specs.Meaning as meaning;
 ghost use Rattle.dg_eval.specs.Runs.{and_then};
@@ -18,23 +16,15 @@ ghost use Rattle.dg_bodies.specs.Sites.{seen, run_at, looked_part, pair_part};
 
 use crate::calls::{by_param, called_with};
 use crate::counters::{NewsAndCalls, next_new, pass_expression};
-use crate::operations;
+use crate::made::{equal_of, field_in, less_of, made_object, paired, passed, sum_of, text_value};
 use crate::params::{param, param_has, param_inside, param_is_ok};
 use crate::site::Site;
 use dg_decl::CallName;
 use dg_requests::{Below, Cells, InScope, Stop, look};
 use dg_slots::{NCond, NExpr};
-use dg_types::{NoMemory, Text};
-use dg_value::{PlaceStep, Shared, Value};
+use dg_value::Value;
 use sqlite_items::Items;
 use std::alloc::Global;
-
-/// A text as a value.
-fn text_value(alloc: Global, text: &Text) -> Result<Value, NoMemory>
-    ensures exact { IfOk result (λ v. v ≡ value.Text text.now) }
-{
-    Ok(Value::Text(Shared::new(alloc, text.copy(alloc)?)?))
-}
 
 /// What an expression gives.
 #[cycle(parts)]
@@ -156,8 +146,8 @@ fn both<S: InScope, C: Cells, B: Below<C>>(
     ensures same { C.scope cells.new ≡ S.scope }
 {
     let v = looked::<S, C, B>(alloc, site, a, at, below, depth, cells)?;
-    let w = looked::<S, C, B>(alloc, site, b, at, below, depth, cells)?;
-    Ok((v, w))
+    let w = looked::<S, C, B>(alloc, site, b, at, below, depth, cells);
+    paired(v, w)
 }
 
 /// The sum of two integers.
@@ -182,7 +172,7 @@ fn sum<S: InScope, C: Cells, B: Below<C>>(
     ensures same { C.scope cells.new ≡ S.scope }
 {
     let pair = both::<S, C, B>(alloc, site, a, b, at, below, depth, cells)?;
-    operations::sum(alloc, site.slot, &pair.0, &pair.1)
+    sum_of(alloc, site.slot, pair)
 }
 
 /// Whether two texts or two integers are equal.
@@ -207,7 +197,7 @@ fn equal<S: InScope, C: Cells, B: Below<C>>(
     ensures same { C.scope cells.new ≡ S.scope }
 {
     let pair = both::<S, C, B>(alloc, site, a, b, at, below, depth, cells)?;
-    operations::equal(alloc, &pair.0, &pair.1)
+    equal_of(alloc, pair)
 }
 
 /// Whether an integer is less than another one.
@@ -232,7 +222,7 @@ fn less<S: InScope, C: Cells, B: Below<C>>(
     ensures same { C.scope cells.new ≡ S.scope }
 {
     let pair = both::<S, C, B>(alloc, site, a, b, at, below, depth, cells)?;
-    operations::less(alloc, &pair.0, &pair.1)
+    less_of(alloc, pair)
 }
 
 /// The field of this index of an object.
@@ -257,7 +247,7 @@ fn field_of<S: InScope, C: Cells, B: Below<C>>(
     ensures same { C.scope cells.new ≡ S.scope }
 {
     let object = looked::<S, C, B>(alloc, site, of, at, below, depth, cells)?;
-    operations::field(alloc, field, &object)
+    field_in(alloc, field, object)
 }
 
 /// What some expressions give, in order.
@@ -309,13 +299,8 @@ fn object<S: InScope, C: Cells, B: Below<C>>(
     ensures same { C.scope cells.new ≡ S.scope }
 {
     let number = next_new(at)?;
-    let ident = site.place.then_step(PlaceStep::New(number))?;
     let fields = arguments::<S, C, B>(alloc, site, args, at, below, depth, cells)?;
-    Ok(Value::Object {
-        class,
-        ident,
-        fields: Shared::new(alloc, fields)?,
-    })
+    Ok(made_object(alloc, class, site.place, number, fields)?)
 }
 
 /// Of two expressions the one that a condition chooses. The other isn't evaluated.
@@ -342,8 +327,7 @@ fn chosen<S: InScope, C: Cells, B: Below<C>>(
 {
     if condition::<S, C, B>(alloc, site, cond, at, below, depth, cells)? {
         let value = expression::<S, C, B>(alloc, site, yes, at, below, depth, cells)?;
-        pass_expression(no, at)?;
-        Ok(value)
+        passed(value, pass_expression(no, at))
     } else {
         pass_expression(yes, at)?;
         expression::<S, C, B>(alloc, site, no, at, below, depth, cells)
@@ -398,9 +382,6 @@ fn or_else<S: InScope, C: Cells, B: Below<C>>(
 {
     match param_inside(alloc, site.params, param)? {
         None => expression::<S, C, B>(alloc, site, other, at, below, depth, cells),
-        Some(inside) => {
-            pass_expression(other, at)?;
-            Ok(inside)
-        }
+        Some(inside) => passed(inside, pass_expression(other, at)),
     }
 }

@@ -4,6 +4,7 @@
 mod calls;
 mod counters;
 mod expressions;
+mod made;
 mod operations;
 mod params;
 mod parts;

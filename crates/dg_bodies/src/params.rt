@@ -6,9 +6,9 @@ ghost use Rattle.dg_eval.specs.Operations as spec;
 ghost use Rattle.dg_eval.specs.Runs.{and_then};
 ghost use Rattle.dg_requests.specs.Results.{Gave};
 
-use crate::operations::{self, mistyped};
+use crate::operations;
 use crate::parts::inside;
-use dg_requests::Stop;
+use dg_requests::{Stop, mistyped};
 use dg_value::Value;
 use std::alloc::Global;
 

@@ -14,9 +14,8 @@ ghost use Rattle.dg_requests.specs.Depths.{IsBelow};
 ghost use Rattle.dg_bodies.specs.Elements as spec;
 ghost use Rattle.dg_bodies.specs.Elements.{listed};
 
-use crate::operations::mistyped;
 use crate::parts::{elements, entry_value};
-use dg_requests::{Below, Cells, InScope, Stop, look};
+use dg_requests::{Below, Cells, InScope, Stop, look, mistyped};
 use dg_types::{MapKeyVal, NoMemory};
 use dg_value::{Shared, Value, same_element};
 use sqlite_items::Items;

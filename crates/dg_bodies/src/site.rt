@@ -16,12 +16,15 @@ pub(crate) struct Site<'a> {
 impl<'a> Model for Site<'a> {
     ghost use Rattle.std.specs.Coded.{codes};
     ghost use Rattle.dg_slots.specs.contracts.body.NTree as tree;
+    ghost use Rattle.dg_slots.specs.contracts.body.NExpr as expr;
+    ghost use Rattle.dg_slots.specs.contracts.body.NCond as cond;
+    ghost use Rattle.dg_value.specs.contracts.value.Kept as kept;
     ghost use Rattle.dg_value.specs.contracts.value.Value as value;
     ghost use Rattle.dg_bodies.specs.Sites as sites;
 
     ghost Value = { sites.Site };
 
-    ghost coded = { Prim.hlevel (codes, tree.the_row.coded, value.the_row.coded) };
+    ghost coded = { Prim.hlevel (codes, tree.the_row.coded, expr.the_row.coded, cond.the_row.coded, value.the_row.coded, kept.the_row.coded) };
 
     ghost view = { λ s. record {
       plan = s.plan.now;

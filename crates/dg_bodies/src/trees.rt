@@ -15,6 +15,7 @@ ghost use Rattle.dg_bodies.specs.Sites.{AwaitsFit, seen, run_at};
 
 use crate::counters::{NewsAndCalls, next_call, pass_tree};
 use crate::expressions::{condition, expression};
+use crate::made::passed;
 use crate::params::param;
 use crate::site::Site;
 use dg_eval::World;
@@ -101,8 +102,7 @@ fn chosen<S: InScope, C: Cells, B: Below<C>>(
 {
     if condition::<S, C, B>(alloc, site, cond, at, below, depth, cells)? {
         let end = tree::<S, C, B>(alloc, site, world, yes, at, below, depth, cells)?;
-        pass_tree(no, at)?;
-        Ok(end)
+        passed(end, pass_tree(no, at))
     } else {
         pass_tree(yes, at)?;
         tree::<S, C, B>(alloc, site, world, no, at, below, depth, cells)
