@@ -1,3 +1,4 @@
+pub mod TreeLemmas
 pub mod EntryLemmas
 pub mod RowLemmas
 pub mod Steps

@@ -17,7 +17,7 @@ use Rattle.dg_value.specs.Places.{then_step}
 use Rattle.dg_value.specs.declared.value.Value.{Value}
 use Rattle.dg_value.specs.declared.value.Value.TheVariants as value
 use Rattle.dg_eval.specs.Runs.{Run, gives, and_then, mistyped}
-use Rattle.dg_eval.specs.Operations.{or_mistyped, field_in, sum_in, less_in, equal_in, inside_in}
+use Rattle.dg_eval.specs.Operations.{or_mistyped, field_in, sum_in, less_in, equal_in, inside_in, has_in, is_ok_in}
 use Rattle.dg_eval.specs.Bodies.{End, value_end, Around, Part, of_two, chosen, inside_or, called_with, by_param, expr_part, cond_part, tree_part}
 use Rattle.dg_bodies.specs.declared.counters.NewsAndCalls.{NewsAndCalls}
 use Rattle.dg_bodies.specs.Counts.{one_new, one_call, after, row}
@@ -163,6 +163,14 @@ int_run n s at = as_part _ _ s at (part_int n)
 pub param_run : (p : ℕ) (s : Around) (at : NewsAndCalls)
     → run_at (expr_part (nexpr.Param p)) s at ≡ s.param p
 param_run p s at = as_part _ _ s at (part_param p)
+
+pub has_run : (p : ℕ) (s : Around) (at : NewsAndCalls)
+    → run_at (cond_part (ncond.Has p)) s at ≡ and_then (s.param p) has_in
+has_run p s at = as_part _ _ s at (part_has p)
+
+pub is_ok_run : (p : ℕ) (s : Around) (at : NewsAndCalls)
+    → run_at (cond_part (ncond.IsOk p)) s at ≡ and_then (s.param p) is_ok_in
+is_ok_run p s at = as_part _ _ s at (part_is_ok p)
 
 pub by_name_run : (f : ParamCall) (p : ℕ) (s : Around) (at : NewsAndCalls)
     → run_at (expr_part (nexpr.ByName f p)) s at ≡ run_at (by_param f p) s at

@@ -1,6 +1,6 @@
 -- Expressions in a row, evaluated one after another.
-use Rattle.std.proofs.Common.{◌≡◌, ◌<◌, ◌≤◌, ◌+◌, ◌∷◌, [], ℕ, zero, suc, List, length, map, drop, get_or, drop-cons, slice_get, Option, Some, None, Result, Ok, Err, refl, sym, ap, ◌∙◌, arith}
-use Rattle.std.proofs.lemmas.Option.{same_Some}
+use Rattle.std.proofs.Common.{◌≡◌, ◌<◌, ◌≤◌, ◌+◌, ◌∷◌, ◌++◌, [], take, append-nil, take-append-drop, ℕ, zero, suc, List, length, map, drop, get_or, drop-cons, slice_get, Option, Some, None, Result, Ok, Err, refl, sym, ap, ◌∙◌, arith}
+use Rattle.std.proofs.lemmas.List.{drop_all}
 use Rattle.dg_slots.specs.declared.body.NExpr.{NExpr}
 use Rattle.dg_value.specs.declared.value.Value.{Value}
 use Rattle.dg_eval.specs.Runs.{Run}
@@ -82,3 +82,12 @@ pub row_done : (s : Around) (args : List NExpr) (start : NewsAndCalls) (i : ℕ)
     → (at : NewsAndCalls) → AtRow s args start i at → length args ≤ i
     → at ≡ after (row (map expr_part args)) start
 row_done s args start i at here le = row_end args i at _ le here.end
+
+pub row_all : (s : Around) (args : List NExpr) (start : NewsAndCalls) (i : ℕ)
+    → (at : NewsAndCalls) → AtRow s args start i at → length args ≤ i
+    → take i (runs args s start) ≡ runs args s start
+row_all s args start i at here le =
+    sym (append-nil (take i (runs args s start)))
+    ∙ ap (λ (l : List (Run Value)). take i (runs args s start) ++ l)
+    (sym (here.rest ∙ ap (λ (l : List NExpr). runs l s at) (drop_all i args le)))
+    ∙ take-append-drop i (runs args s start)

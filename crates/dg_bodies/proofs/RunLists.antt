@@ -187,3 +187,8 @@ pub mapped_at : {A B : Type 0} (f : A → Run B) (xs : List A) (i : ℕ) (x y : 
 mapped_at f xs i x y lt is same =
     slice_get-map f xs i ∙ ap (option_map f) (slice_get_read xs (length xs) i x refl lt is)
     ∙ ap (λ z. Some (f z)) (sym same)
+
+pub passed_none : {A : Type 0} (s : Scope) (rs : List (Run A)) (x : Option (List Asked))
+    → (vs : List A) → vs ≡ [] → Passed s rs 0 x x vs
+passed_none {A} s rs x vs e =
+    subst (λ (l : List A). Passed s rs 0 x x l) (sym e) (passed_start s rs x)

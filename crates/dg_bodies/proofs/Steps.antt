@@ -1,5 +1,5 @@
 -- A run that is another one and what goes on with its result.
-use Rattle.std.proofs.Common.{◌≡◌, List, [], Option, Some, None, Result, Ok, Err, refl, sym, ap, subst, ◌∙◌}
+use Rattle.std.proofs.Common.{◌≡◌, Bool, true, false, cond, List, [], Option, Some, None, Result, Ok, Err, refl, sym, ap, subst, ◌∙◌}
 use Rattle.std.specs.Result.{OnOk}
 use Rattle.dg_lex.specs.Bytes.{Bytes}
 use Rattle.std.specs.Prelude.{ℕ}
@@ -73,17 +73,21 @@ as_given : {A : Type 0} (s : Scope) (r : Run A) (x y : Option (List Asked))
 as_given {A} s r x y given result e h =
     subst (λ (u : Result A Stop). Ran s r x y u) (sym e) h
 
+-- what goes on to a pair
+abbrev pub pairing : Run Value → Value → Run (Value × Value)
+pairing r v = and_then r (λ w. gives (v, w))
+
 pub ran_paired : (s : Scope) (r : Run Value) (v : Value) (x y : Option (List Asked))
     → (second : Result Value Stop) (result : Result (Value × Value) Stop)
-    → CanRun s (and_then r (λ w. gives (v, w))) → Ran s r x y second
-    → result ≡ pair_with v second → Ran s (and_then r (λ w. gives (v, w))) x y result
+    → CanRun s (pairing r v) → Ran s r x y second → result ≡ pair_with v second
+    → Ran s (pairing r v) x y result
 ran_paired s r v x y (Ok w) result can ran is =
     let next : Value → Run (Value × Value) = λ w. gives (v, w) in
-    as_given s (and_then r next) x y (Ok (v, w)) result is
+    as_given s (pairing r v) x y (Ok (v, w)) result is
     (ran_then s r next w x y y (Ok (v, w)) can ran (ran_plain s (next w) y (Ok (v, w)) refl refl))
 ran_paired s r v x y (Err e) result can ran is =
     let next : Value → Run (Value × Value) = λ w. gives (v, w) in
-    as_given s (and_then r next) x y (Err e) result is (ran_stops s r next e x y can ran)
+    as_given s (pairing r v) x y (Err e) result is (ran_stops s r next e x y can ran)
 
 pub on_paired : (v : Value) (second : Result Value Stop) (result : Result (Value × Value) Stop)
     → (P : Type 0) → OnOk second P → result ≡ pair_with v second → OnOk result P
@@ -104,3 +108,35 @@ pub on_passed : {A : Type 0} (a : A) (counted : Result (Unit {0}) NoMemory)
     → OnOk result P
 on_passed {A} a (Ok u) result P h is = subst (λ (r : Result A Stop). OnOk r P) (sym is) h
 on_passed {A} a (Err e) result P h is = subst (λ (r : Result A Stop). OnOk r P) (sym is) tt
+
+pub on_ok_map : {A E : Type 0} (r : Result A E) (P Q : Type 0) → (P → Q) → OnOk r P → OnOk r Q
+on_ok_map (Ok a) P Q f h = f h
+on_ok_map (Err e) P Q f h = tt
+
+-- a value that is given
+pub ran_value : {A : Type 0} (s : Scope) (v w : A) (x : Option (List Asked)) → w ≡ v
+    → Ran s (gives v) x x (Ok w)
+ran_value {A} s v w x e =
+    subst (λ (u : A). Ran s (gives v) x x (Ok u)) (sym e) (ran_plain s (gives v) x (Ok v) refl refl)
+
+-- ---- of two runs the one that a condition chooses
+
+pub can_true : {A : Type 0} (s : Scope) (holds : Bool) (q r : Run A) → holds ≡ true
+    → CanRun s (cond holds q r) → CanRun s q
+can_true s holds q r e h = can_as s (cond holds q r) q (ap (λ b. cond b q r) e) h
+
+pub can_false : {A : Type 0} (s : Scope) (holds : Bool) (q r : Run A) → holds ≡ false
+    → CanRun s (cond holds q r) → CanRun s r
+can_false s holds q r e h = can_as s (cond holds q r) r (ap (λ b. cond b q r) e) h
+
+pub ran_true : {A : Type 0} (s : Scope) (holds : Bool) (q r : Run A) (x y : Option (List Asked))
+    → (result : Result A Stop) → holds ≡ true → Ran s q x y result
+    → Ran s (cond holds q r) x y result
+ran_true s holds q r x y result e h =
+    ran_as s q (cond holds q r) x y result (ap (λ b. cond b q r) (sym e)) h
+
+pub ran_false : {A : Type 0} (s : Scope) (holds : Bool) (q r : Run A) (x y : Option (List Asked))
+    → (result : Result A Stop) → holds ≡ false → Ran s r x y result
+    → Ran s (cond holds q r) x y result
+ran_false s holds q r x y result e h =
+    ran_as s r (cond holds q r) x y result (ap (λ b. cond b q r) (sym e)) h

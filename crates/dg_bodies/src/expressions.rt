@@ -16,7 +16,7 @@ ghost use Rattle.dg_bodies.specs.Sites.{seen, run_at, looked_part, pair_part};
 
 use crate::calls::{by_param, called_with};
 use crate::counters::{NewsAndCalls, next_new, pass_expression};
-use crate::made::{equal_of, field_in, less_of, made_object, paired, passed, sum_of, text_value};
+use crate::made::{equal_of, field_in, int_value, less_of, made_object, paired, passed, sum_of, text_value};
 use crate::params::{param, param_has, param_inside, param_is_ok};
 use crate::site::Site;
 use dg_decl::CallName;
@@ -48,7 +48,7 @@ pub(crate) fn expression<S: InScope, C: Cells, B: Below<C>>(
 {
     match e {
         NExpr::Text(text) => Ok(text_value(alloc, text)?),
-        NExpr::Int(n) => Ok(Value::Int(*n)),
+        NExpr::Int(n) => Ok(int_value(n)),
         NExpr::Param(index) => param(alloc, site.params, *index),
         NExpr::New { class, args } => {
             object::<S, C, B>(alloc, site, *class, args.as_slice(), at, below, depth, cells)

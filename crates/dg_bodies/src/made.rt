@@ -23,6 +23,13 @@ pub(crate) fn text_value(alloc: Global, text: &Text) -> Result<Value, NoMemory>
     Ok(Value::Text(Shared::new(alloc, text.copy(alloc)?)?))
 }
 
+/// An integer as a value.
+pub(crate) fn int_value(n: &i64) -> Value
+    ensures exact { result ≡ value.Int n.now }
+{
+    Value::Int(*n)
+}
+
 /// A value and another one, unless that stopped.
 pub(crate) fn paired(v: Value, second: Result<Value, Stop>) -> Result<(Value, Value), Stop>
     ensures exact { result ≡ pair_with v second }
