@@ -74,7 +74,7 @@ both-returns-in_err-v-clause-ran g t c =
 
 pub both-looked-w-requires : goal.both-looked-w-requires
 both-looked-w-requires g t c κs within =
-    (search (rules, the_lemmas), (search rules, (search rules, (search rules, (c.requires.fit,
+    (omega (arith, c.decreases), (search rules, (search rules, (search rules, (c.requires.fit,
       (c.requires.below, (c.requires.deep, (c.looked.ensures.same, (
       let s = g.S.InScope.scope in
       let see = seen s c.args.depth c.args.site.now in
@@ -120,7 +120,7 @@ both-returns-clause-after g t c =
 
 pub sum-both-requires : goal.sum-both-requires
 sum-both-requires g t c κs within =
-    (search (rules, the_lemmas), (search rules, (search rules, (search rules, (c.requires.fit,
+    (omega (arith, c.decreases), (search rules, (search rules, (search rules, (c.requires.fit,
       (c.requires.below, (c.requires.deep, (c.requires.same, (
       let s = g.S.InScope.scope in
       let see = seen s c.args.depth c.args.site.now in
@@ -166,7 +166,7 @@ sum-returns-clause-after g t c =
 
 pub equal-both-requires : goal.equal-both-requires
 equal-both-requires g t c κs within =
-    (search (rules, the_lemmas), (search rules, (search rules, (search rules, (c.requires.fit,
+    (omega (arith, c.decreases), (search rules, (search rules, (search rules, (c.requires.fit,
       (c.requires.below, (c.requires.deep, (c.requires.same, (
       let s = g.S.InScope.scope in
       let see = seen s c.args.depth c.args.site.now in
@@ -210,7 +210,7 @@ equal-returns-clause-after g t c =
 
 pub less-both-requires : goal.less-both-requires
 less-both-requires g t c κs within =
-    (search (rules, the_lemmas), (search rules, (search rules, (search rules, (c.requires.fit,
+    (omega (arith, c.decreases), (search rules, (search rules, (search rules, (c.requires.fit,
       (c.requires.below, (c.requires.deep, (c.requires.same, (
       let s = g.S.InScope.scope in
       let see = seen s c.args.depth c.args.site.now in
@@ -511,7 +511,7 @@ called-returns-clause-after g t c =
 
 pub chosen-condition-requires : goal.chosen-condition-requires
 chosen-condition-requires g t c κs within =
-    (search (rules, the_lemmas), (search rules, (search rules, (search rules, (c.requires.fit,
+    (omega (arith, c.decreases), (search rules, (search rules, (search rules, (c.requires.fit,
       (c.requires.below, (c.requires.deep, (c.requires.same, (
       let s = g.S.InScope.scope in
       let see = seen s c.args.depth c.args.site.now in
@@ -540,7 +540,7 @@ chosen-returns-in_err-condition-clause-ran g t c =
 
 pub chosen-expression-requires : goal.chosen-expression-requires
 chosen-expression-requires g t c κs within =
-    (search (rules, the_lemmas), (search rules, (search rules, (search rules, (c.requires.fit,
+    (omega (arith, c.decreases), (search rules, (search rules, (search rules, (c.requires.fit,
       (c.requires.below, (c.requires.deep, (c.condition.ensures.same, (
       let s = g.S.InScope.scope in
       let see = seen s c.args.depth c.args.site.now in
@@ -561,7 +561,7 @@ chosen-expression-requires g t c κs within =
 
 pub chosen-expression-requires-else-branch : goal.chosen-expression-requires-else-branch
 chosen-expression-requires-else-branch g t c κs within =
-    (search (rules, the_lemmas), (search rules, (search rules, (search rules, (c.requires.fit,
+    (omega (arith, c.decreases), (search rules, (search rules, (search rules, (c.requires.fit,
       (c.requires.below, (c.requires.deep, (c.condition.ensures.same, (
       let s = g.S.InScope.scope in
       let see = seen s c.args.depth c.args.site.now in

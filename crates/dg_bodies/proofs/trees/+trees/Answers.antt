@@ -1,6 +1,5 @@
-use Rattle.std.proofs.Common.{◌≡◌, rules, refl, sym, ap, ◌∙◌}
+use Rattle.std.proofs.Common.{◌≡◌, rules, refl, sym, ap, ◌∙◌, arith}
 use Rattle.std.proofs.lemmas.Result.{err_from_is_err_and}
-use Rattle.dg_slots.specs.declared.body.NTree.{NTree, the_lemmas}
 use Rattle.dg_eval.specs.Runs.{Run}
 use Rattle.dg_eval.specs.Bodies.{End, cond_part, tree_part}
 use Rattle.dg_requests.specs.Results.{as_end, ends}
@@ -44,7 +43,7 @@ chosen-returns-in_err-condition-clause-ran g t c =
 
 pub chosen-tree-requires : goal.chosen-tree-requires
 chosen-tree-requires g t c κs within =
-    (search (rules, the_lemmas), (search rules, (search rules, (search rules, (c.requires.fit,
+    (omega (arith, c.decreases), (search rules, (search rules, (search rules, (c.requires.fit,
       (c.requires.of_world, (awaits_yes _ _ c.args.cond.now c.args.yes.now c.args.no.now c.requires.awaits,
       (c.requires.below, (c.requires.deep, (c.condition.ensures.same, (
       let s = g.S.InScope.scope in
@@ -66,7 +65,7 @@ chosen-tree-requires g t c κs within =
 
 pub chosen-tree-requires-else-branch : goal.chosen-tree-requires-else-branch
 chosen-tree-requires-else-branch g t c κs within =
-    (search (rules, the_lemmas), (search rules, (search rules, (search rules, (c.requires.fit,
+    (omega (arith, c.decreases), (search rules, (search rules, (search rules, (c.requires.fit,
       (c.requires.of_world, (awaits_no _ _ c.args.cond.now c.args.yes.now c.args.no.now c.requires.awaits,
       (c.requires.below, (c.requires.deep, (c.condition.ensures.same, (
       let s = g.S.InScope.scope in

@@ -7,7 +7,7 @@ use Rattle.dg_eval.specs.Runs.{Run}
 use Rattle.dg_eval.specs.Meaning.{param_in}
 use Rattle.dg_requests.specs.Results.{Gave, ends}
 use Rattle.dg_bodies.specs.Sites.{Site, seen}
-use Rattle.dg_bodies.proofs.Steps.{stops, goes_on, on_ok}
+use Rattle.dg_bodies.proofs.Steps.{can_go_on, stops, goes_on, on_ok}
 use Rattle.dg_bodies.proofs.PlainRuns.{ran_over, plain_param}
 use Rattle.dg_bodies.proofs.PartRuns.{await_run}
 use Rattle.dg_bodies.proofs.CountLemmas.{after_await}
@@ -61,3 +61,16 @@ pub returns-clause-after : goal.returns-clause-after
 returns-clause-after g c =
     on_ok c.awaited.result _
     (c.in_ok-number.ensures.after ∙ sym (after_await c.args.index c.args.at.now))
+
+pub awaited-requires-clause-can : goal.awaited-requires-clause-can
+awaited-requires-clause-can g c =
+    let s = g.S.InScope.scope in
+    let place = c.in_ok-place.ensures.exact
+    ∙ ap (λ (u : Site). then_step u.place (step.Call c.in_ok-number.number)) c.site.view_is in
+    let is = await_run c.args.index (seen s c.args.depth c.args.site.now) c.args.at.now
+    c.in_ok-number.number c.in_ok-place.place c.in_ok-number.ensures.exact place in
+    can_go_on s _ (param_in c.args.site.now.params c.args.index) _ c.in_ok-value.value
+    (g.C.Cells.asked c.args.cells.now) (g.C.Cells.asked c.args.cells.now) is c.requires.can
+    (ran_over s c.site.inside.params.now c.args.site.now.params (λ l. param_in l c.args.index) _
+    (Ok c.in_ok-value.value) (ap (λ (u : Site). u.params) c.site.view_is)
+    (plain_param c.site.inside.params.now c.args.index) c.in_ok-value.ensures.exact)
