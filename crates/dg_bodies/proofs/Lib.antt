@@ -1,1 +1,13 @@
+pub mod TreeLemmas
+pub mod EntryLemmas
+pub mod RowLemmas
+pub mod Steps
+pub mod PlainRuns
+pub mod PartRuns
+pub mod ParamLemmas
+pub mod PartForms
+pub mod CountLemmas
+pub mod ElementLemmas
+pub mod RunLists
+pub mod SetLemmas
 pub mod TextLemmas
