@@ -1,5 +1,5 @@
 -- The first two of some values in each other's place.
-use Rattle.std.proofs.Common.{◌≡◌, ◌<◌, ◌≤◌, List, [], ◌∷◌, length, refl, arith}
+use Rattle.std.proofs.Common.{◌≡◌, ◌≤◌, List, [], ◌∷◌, length, refl, arith}
 use Rattle.std.specs.List.{swap}
 use Rattle.dg_value.specs.declared.value.Value.{Value}
 use Rattle.dg_bodies.specs.Elements.{as_looked_at}

@@ -1,5 +1,5 @@
 -- The entries of sets and maps that are values.
-use Rattle.std.proofs.Common.{◌≡◌, List, Option, Some, None, refl, sym, ap}
+use Rattle.std.proofs.Common.{◌≡◌, List, Some, None, refl, sym, ap}
 use Rattle.std.specs.List.{filter_map}
 use Rattle.std.proofs.lemmas.Option.{none-some, same_Some}
 use Rattle.dg_value.specs.declared.value.Kept.TheOpen.{Value-F}

@@ -1,5 +1,5 @@
 -- What is made of a parameter that is there.
-use Rattle.std.proofs.Common.{◌≡◌, [], Option, Some, None, option_map, refl}
+use Rattle.std.proofs.Common.{◌≡◌, [], Some, None, refl}
 use Rattle.dg_eval.specs.Runs.{Run, before}
 
 pub nothing_before : {A : Type 0} (r : Run A) → before [] r ≡ r

@@ -1,6 +1,6 @@
 -- Expressions, conditions and trees as parts, by their forms.
-use Rattle.std.proofs.Common.{◌≡◌, ◌∷◌, [], ◌++◌, suc, List, map, sym, ap, ◌∙◌}
-use Rattle.std.specs.Prelude.{ℕ, Bool, ℤ, length, ◌+◌}
+use Rattle.std.proofs.Common.{◌≡◌, ◌∷◌, [], suc, List, map, sym, ap, ◌∙◌}
+use Rattle.std.specs.Prelude.{ℕ, Bool, ℤ}
 use Rattle.dg_lex.specs.Bytes.{Bytes}
 use Rattle.dg_decl.specs.declared.expression.CallName.{CallName}
 use Rattle.dg_decl.specs.declared.expression.ParamCall.{ParamCall}

@@ -1,5 +1,5 @@
 -- What the parts of a body give, by their forms: each a run and what goes on with its result.
-use Rattle.std.proofs.Common.{◌≡◌, ◌+◌, ℕ, suc, Bool, cond, List, length, map, Option, Some, None, refl, sym, ap, ◌∙◌, arith}
+use Rattle.std.proofs.Common.{◌≡◌, ◌+◌, ℕ, suc, cond, List, length, map, Option, Some, None, refl, sym, ap, ◌∙◌, arith}
 use Rattle.dg_decl.specs.declared.expression.CallName.{CallName}
 use Rattle.std.specs.Prelude.{ℤ}
 use Rattle.dg_lex.specs.Bytes.{Bytes}
@@ -16,11 +16,11 @@ use Rattle.dg_value.specs.declared.place.PlaceStep.TheVariants as step
 use Rattle.dg_value.specs.Places.{then_step}
 use Rattle.dg_value.specs.declared.value.Value.{Value}
 use Rattle.dg_value.specs.declared.value.Value.TheVariants as value
-use Rattle.dg_eval.specs.Runs.{Run, gives, and_then, mistyped}
+use Rattle.dg_eval.specs.Runs.{Run, gives, and_then}
 use Rattle.dg_eval.specs.Operations.{or_mistyped, field_in, sum_in, less_in, equal_in, inside_in, has_in, is_ok_in}
-use Rattle.dg_eval.specs.Bodies.{End, value_end, Around, Part, of_two, chosen, inside_or, called_with, by_param, expr_part, cond_part, tree_part}
+use Rattle.dg_eval.specs.Bodies.{value_end, Around, Part, of_two, inside_or, called_with, by_param, expr_part, cond_part, tree_part}
 use Rattle.dg_bodies.specs.declared.counters.NewsAndCalls.{NewsAndCalls}
-use Rattle.dg_bodies.specs.Counts.{one_new, one_call, after, row}
+use Rattle.dg_bodies.specs.Counts.{one_new, after, row}
 use Rattle.dg_bodies.specs.Sites.{run_at, looked_part, pair_part}
 use Rattle.dg_bodies.proofs.RunLists.{then_then, gives_then}
 use Rattle.dg_bodies.proofs.PartForms.{part_text, part_int, part_param, part_new, part_field, part_sum, part_if, part_call, part_by_name, part_or_else, part_equal, part_less, part_has, part_is_ok, part_leaf, part_await, part_choice}
@@ -55,8 +55,8 @@ two_run {B} a b next s at =
     let made : Value × Value → Run B = λ p. next s p.0 p.1 in
     sym (then_then (run_at (looked_part a) s at) both made
     ∙ (λ i. and_then (run_at (looked_part a) s at) (λ v.
-      (then_then second (λ w. gives (v, w)) made
-      ∙ (λ j. and_then second (λ w. gives_then (v, w) made j))) i)))
+    (then_then second (λ w. gives (v, w)) made
+    ∙ (λ j. and_then second (λ w. gives_then (v, w) made j))) i)))
 
 pub sum_run : (a b : NExpr) (s : Around) (at : NewsAndCalls)
     → run_at (expr_part (nexpr.Sum a b)) s at
@@ -111,8 +111,8 @@ unfolding after
 if_run c a b s at then_at else_at e f =
     as_part _ _ s at (part_if c a b)
     ∙ (λ i. and_then (run_at (cond_part c) s at) (λ holds.
-      cond holds (run_at (expr_part a) s (sym e i))
-      (run_at (expr_part b) s ((ap (after (expr_part a)) (sym e) ∙ sym f) i))))
+    cond holds (run_at (expr_part a) s (sym e i))
+    (run_at (expr_part b) s ((ap (after (expr_part a)) (sym e) ∙ sym f) i))))
 
 pub choice_run : (c : NCond) (a b : NTree) (s : Around) (at then_at else_at : NewsAndCalls)
     → then_at ≡ after (cond_part c) at → else_at ≡ after (tree_part a) then_at
@@ -123,8 +123,8 @@ unfolding after
 choice_run c a b s at then_at else_at e f =
     as_part _ _ s at (part_choice c a b)
     ∙ (λ i. and_then (run_at (cond_part c) s at) (λ holds.
-      cond holds (run_at (tree_part a) s (sym e i))
-      (run_at (tree_part b) s ((ap (after (tree_part a)) (sym e) ∙ sym f) i))))
+    cond holds (run_at (tree_part a) s (sym e i))
+    (run_at (tree_part b) s ((ap (after (tree_part a)) (sym e) ∙ sym f) i))))
 
 pub called_run : (f : CallName) (args : List NExpr) (s : Around) (at : NewsAndCalls)
     → run_at (expr_part (nexpr.Call f args)) s at

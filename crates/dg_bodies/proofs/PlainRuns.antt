@@ -11,7 +11,7 @@ use Rattle.dg_value.specs.declared.value.Kept.TheOpen.{Kept-F, Value-F}
 use Rattle.dg_value.specs.declared.value.Value.{Value, out-Value}
 use Rattle.dg_value.specs.Same.{Layer}
 use Rattle.dg_eval.specs.Runs.{Asked, Run, gives, failed, and_then, mistyped, asks_of}
-use Rattle.dg_eval.specs.Operations.{or_mistyped, only_of, int_in, text_in, field_in, field_at, is_in_range, sum_of, with_two, sum_in, less_in, equal_at, equal_in, all_in, text_within, text_limit, joined, cat_of, cat_in, decimal_of, size_at, fail_of, kept_in, value_of_kept, value_in, failure_in, is_ok_in, inside_in, has_in}
+use Rattle.dg_eval.specs.Operations.{or_mistyped, only_of, int_in, text_in, field_in, field_at, is_in_range, sum_of, with_two, sum_in, less_in, equal_at, equal_in, all_in, text_limit, joined, cat_of, cat_in, decimal_of, size_at, fail_of, kept_in, value_of_kept, value_in, failure_in, is_ok_in, inside_in, has_in}
 use Rattle.dg_eval.specs.Meaning.{param_in}
 use Rattle.dg_requests.specs.declared.stop.Stop.{Stop}
 use Rattle.dg_requests.specs.Scopes.{Scope}

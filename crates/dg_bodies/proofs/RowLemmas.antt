@@ -1,10 +1,10 @@
 -- Expressions in a row, evaluated one after another.
-use Rattle.std.proofs.Common.{◌≡◌, ◌<◌, ◌≤◌, ◌+◌, ◌∷◌, ◌++◌, [], take, append-nil, take-append-drop, ℕ, zero, suc, List, length, map, drop, get_or, drop-cons, slice_get, Option, Some, None, Result, Ok, Err, refl, sym, ap, ◌∙◌, arith}
+use Rattle.std.proofs.Common.{◌≡◌, ◌<◌, ◌≤◌, ◌+◌, ◌∷◌, ◌++◌, [], take, append-nil, take-append-drop, ℕ, zero, suc, List, length, map, drop, get_or, drop-cons, slice_get, Some, refl, sym, ap, ◌∙◌, arith}
 use Rattle.std.proofs.lemmas.List.{drop_all}
 use Rattle.dg_slots.specs.declared.body.NExpr.{NExpr}
 use Rattle.dg_value.specs.declared.value.Value.{Value}
 use Rattle.dg_eval.specs.Runs.{Run}
-use Rattle.dg_eval.specs.Bodies.{Around, Part, runs_of, expr_part}
+use Rattle.dg_eval.specs.Bodies.{Around, runs_of, expr_part}
 use Rattle.dg_bodies.specs.declared.counters.NewsAndCalls.{NewsAndCalls}
 use Rattle.dg_bodies.specs.Counts.{after, row}
 use Rattle.dg_bodies.specs.Sites.{run_at}

@@ -1,13 +1,12 @@
 -- Runs one after another, each where those before it gave a result.
-use Rattle.std.proofs.Common.{◌≡◌, ◌<◌, ◌+◌, ℕ, zero, suc, List, [], ◌∷◌, ◌++◌, length, map, take, drop, slice_get, get_or, Option, Some, None, option_map, Result, Ok, Err, refl, sym, ap, subst, ◌∙◌, append_assoc, append-nil, take-append-drop, drop-cons, arith}
+use Rattle.std.proofs.Common.{◌≡◌, ◌<◌, ◌+◌, ℕ, suc, List, [], ◌∷◌, ◌++◌, length, map, take, drop, slice_get, get_or, Option, Some, None, option_map, Result, Ok, Err, refl, sym, ap, subst, ◌∙◌, append_assoc, append-nil, take-append-drop, drop-cons, arith}
 use Rattle.std.proofs.lemmas.List.{take_more}
 use Rattle.std.proofs.lemmas.Option.{get_or_from_slice_get, slice_get_within, slice_get_read, slice_get-map}
-use Rattle.dg_eval.specs.Runs.{Asked, Run, gives, before, and_then, in_order, asks_of}
-use Rattle.dg_value.specs.declared.value.Failure.{Failure}
+use Rattle.dg_eval.specs.Runs.{Asked, Run, gives, before, and_then, in_order}
 use Rattle.dg_requests.specs.declared.stop.Stop.{Stop}
 use Rattle.dg_requests.specs.declared.stop.Stop.TheVariants as stop
 use Rattle.dg_requests.specs.Scopes.{Scope}
-use Rattle.dg_requests.specs.Results.{CanRun, Gave, Ran}
+use Rattle.dg_requests.specs.Results.{CanRun, Ran}
 use Rattle.dg_requests.proofs.RanLemmas.{can_as, can_first, can_rest, ran_as, ran_plain, ran_stops, ran_then, ran_nothing}
 
 before_none : {A : Type 0} (r : Run A) → before [] r ≡ r

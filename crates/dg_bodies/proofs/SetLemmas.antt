@@ -1,19 +1,18 @@
 -- A set of values by looks at each of them once.
-use Rattle.std.proofs.Common.{◌≡◌, ℕ, suc, Bool, true, false, cond, List, [], ◌∷◌, ◌++◌, map, Option, Some, None, Result, Ok, Err, option_map, Contains, inl, inr, ◌⊎◌, ◌||◌, refl, sym, ap, subst, ◌∙◌, ◌<◌, length, append-nil, arith}
-use Rattle.std.specs.List.{list_any}
+use Rattle.std.proofs.Common.{◌≡◌, Bool, true, false, cond, List, [], ◌∷◌, ◌++◌, map, Option, Some, None, Result, Ok, Err, option_map, Contains, inl, inr, ◌⊎◌, ◌||◌, refl, sym, ap, subst, ◌∙◌, ◌<◌, length, append-nil, arith}
 use Rattle.std.proofs.lemmas.List.Elements.{Contains-append_left, Contains-append_right, Contains-append_cases}
 use Rattle.dg_value.specs.declared.value.Failure.{Failure}
 use Rattle.dg_value.specs.declared.value.Value.{Value}
 use Rattle.dg_value.specs.declared.value.Value.TheVariants as value
 use Rattle.dg_value.specs.Same.{same_element}
 use Rattle.dg_eval.specs.Runs.{Asked, Run, gives, before, and_then, in_order, asks_of}
-use Rattle.dg_eval.specs.Bodies.{has_same, with_element, with_elements, set_of}
+use Rattle.dg_eval.specs.Bodies.{has_same, with_elements, set_of}
 use Rattle.dg_requests.specs.declared.stop.Stop.{Stop}
 use Rattle.dg_requests.specs.declared.stop.Stop.TheVariants as stop
 use Rattle.dg_requests.specs.Scopes.{Scope, AllUsed, Exactly, Told}
 use Rattle.dg_decl.specs.declared.document.Doc.{Doc}
 use Rattle.dg_requests.specs.Results.{CanRun, Ran}
-use Rattle.dg_requests.proofs.RanLemmas.{ran_as, ran_plain, ran_then, ran_stops, ran_nothing, can_as, can_first}
+use Rattle.dg_requests.proofs.RanLemmas.{ran_plain, ran_then, ran_stops, can_first}
 use Rattle.dg_bodies.specs.Elements.{as_looked_at, is_among, kept_of}
 use Rattle.dg_bodies.proofs.RunLists.{before_before, then_then, gives_then}
 
@@ -232,7 +231,7 @@ collects look known (w ∷ ws) e es b bs h =
         cond (same_element x y) (gives true) (has_same look w es))))
         (go_on look (e ∷ es) w ws)
     opened o is = λ i. and_then (and_then (is i) (λ x. and_then (look e) (λ y.
-          cond (same_element x y) (gives true) (has_same look w es)))) (go_on look (e ∷ es) w ws)
+        cond (same_element x y) (gives true) (has_same look w es)))) (go_on look (e ∷ es) w ws)
 
     by_look : ((asked : List Asked) (es2 bs2 : List Value)
         → Known look (asked ++ known) (e ∷ es2) (b ∷ bs2)
@@ -304,7 +303,7 @@ two_looked : (look : Value → Run Value) (v w : Value) (vs : List Value)
 two_looked look v w vs =
     let right = order_then (look w) (map look (v ∷ vs)) (elements_from (v ∷ w ∷ vs))
     ∙ (λ i. and_then (look w) (λ a.
-      order_then (look v) (map look vs) (λ more. elements_from (v ∷ w ∷ vs) (a ∷ more)) i)) in
+    order_then (look v) (map look vs) (λ more. elements_from (v ∷ w ∷ vs) (a ∷ more)) i)) in
     subst (λ (r : Run (List Value)). Alike [] (with_elements look [] (v ∷ w ∷ vs)) r) (sym right)
     (subst (λ (q : Run (List Value)). Alike [] q
     (and_then (look w) (λ a. and_then (look v) (rest_of a)))) (sym left)
@@ -390,7 +389,7 @@ set_alike look (v ∷ w ∷ vs) h =
     ≡ and_then looks (set_from (v ∷ w ∷ vs)) =
     then_then looks (elements_from (v ∷ w ∷ vs)) made
     ∙ (λ i. and_then looks (λ cs.
-      gives_then (kept_of [] [] (v ∷ w ∷ vs) (as_looked_at cs)) made i)) in
+    gives_then (kept_of [] [] (v ∷ w ∷ vs) (as_looked_at cs)) made i)) in
     subst (λ (r : Run Value). Alike [] (set_of look (v ∷ w ∷ vs)) r) same
     (alike_then [] (λ es. value.Set es) _ _ (two_looked look v w vs))
 

@@ -1,8 +1,6 @@
 -- A run that is another one and what goes on with its result.
-use Rattle.std.proofs.Common.{◌≡◌, Bool, true, false, cond, List, [], Option, Some, None, Result, Ok, Err, refl, sym, ap, subst, ◌∙◌}
+use Rattle.std.proofs.Common.{◌≡◌, Bool, true, false, cond, List, [], Option, Some, Result, Ok, Err, refl, sym, ap, subst}
 use Rattle.std.specs.Result.{OnOk}
-use Rattle.dg_lex.specs.Bytes.{Bytes}
-use Rattle.std.specs.Prelude.{ℕ}
 use Rattle.dg_eval.specs.Runs.{Asked, Run, gives, and_then}
 use Rattle.dg_types.specs.declared.memory.NoMemory.{NoMemory}
 use Rattle.dg_value.specs.declared.value.Value.{Value}
@@ -10,7 +8,7 @@ use Rattle.dg_bodies.specs.Made.{pair_with, when_counted}
 use Rattle.dg_requests.specs.declared.stop.Stop.{Stop}
 use Rattle.dg_requests.specs.declared.stop.Stop.TheVariants as stop
 use Rattle.dg_requests.specs.Scopes.{Scope}
-use Rattle.dg_requests.specs.Results.{CanRun, Gave, Ran}
+use Rattle.dg_requests.specs.Results.{CanRun, Ran}
 use Rattle.dg_requests.proofs.RanLemmas.{can_as, can_first, can_rest, ran_as, ran_stops, ran_then, ran_plain, ran_nothing}
 use Rattle.dg_bodies.proofs.RunLists.{stops_as, then_gives}
 

@@ -13,7 +13,6 @@ use Rattle.dg_eval.specs.Operations.{or_mistyped}
 use Rattle.dg_eval.specs.Bodies.{End, Part, cond_part, tree_part}
 use Rattle.dg_eval.specs.Meaning.{param_in}
 use Rattle.dg_requests.specs.declared.calls.End.{End as Ended}
-use Rattle.dg_requests.specs.declared.stop.Stop.{Stop}
 use Rattle.dg_requests.specs.Scopes.{Scope, IsFit}
 use Rattle.dg_requests.specs.Results.{Gave, as_end, ends}
 use Rattle.dg_bodies.specs.Made.{when_counted}

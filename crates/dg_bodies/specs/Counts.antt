@@ -1,5 +1,5 @@
 -- How many `new` and calls stand before what comes after a part of a body.
-use Rattle.std.specs.Prelude.{ℕ, ◌+◌, List, length}
+use Rattle.std.specs.Prelude.{◌+◌, List, length}
 use Rattle.dg_eval.specs.Runs.{in_order}
 use Rattle.dg_eval.specs.Bodies.{Part, news_of, called_of, runs_of}
 use Rattle.dg_bodies.specs.declared.counters.NewsAndCalls.{NewsAndCalls}

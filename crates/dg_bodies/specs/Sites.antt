@@ -1,5 +1,5 @@
 -- Where a body is evaluated, and what its parts give there.
-use Rattle.std.specs.Prelude.{◌≡◌, ℕ, ◌+◌, List, ◌++◌, Some, Contains, length, slice_get}
+use Rattle.std.specs.Prelude.{◌≡◌, ℕ, List, Some, Contains, slice_get}
 use Rattle.dg_slots.specs.declared.plan.Plan.{Plan}
 use Rattle.dg_value.specs.declared.place.Place.{Place}
 use Rattle.dg_value.specs.declared.value.Value.{Value}

@@ -16,7 +16,9 @@ ghost use Rattle.dg_bodies.specs.Sites.{seen, run_at, looked_part, pair_part};
 
 use crate::calls::{by_param, called_with};
 use crate::counters::{NewsAndCalls, next_new, pass_expression};
-use crate::made::{equal_of, field_in, int_value, less_of, made_object, paired, passed, sum_of, text_value};
+use crate::made::{
+    equal_of, field_in, int_value, less_of, made_object, paired, passed, sum_of, text_value,
+};
 use crate::params::{param, param_has, param_inside, param_is_ok};
 use crate::site::Site;
 use dg_decl::CallName;
@@ -51,14 +53,33 @@ pub(crate) fn expression<S: InScope, C: Cells, B: Below<C>>(
         NExpr::Int(n) => Ok(int_value(n)),
         NExpr::Param(index) => param(alloc, site.params, *index),
         NExpr::New { class, args } => {
-            object::<S, C, B>(alloc, site, *class, args.as_slice(), at, below, depth, cells)
+            object::<S, C, B>(
+                alloc,
+                site,
+                *class,
+                args.as_slice(),
+                at,
+                below,
+                depth,
+                cells,
+            )
         }
         NExpr::Field { of, field } => {
             field_of::<S, C, B>(alloc, site, of.get(), *field, at, below, depth, cells)
         }
         NExpr::Sum(a, b) => sum::<S, C, B>(alloc, site, a.get(), b.get(), at, below, depth, cells),
         NExpr::If { cond, yes, no } => {
-            chosen::<S, C, B>(alloc, site, cond.get(), yes.get(), no.get(), at, below, depth, cells)
+            chosen::<S, C, B>(
+                alloc,
+                site,
+                cond.get(),
+                yes.get(),
+                no.get(),
+                at,
+                below,
+                depth,
+                cells,
+            )
         }
         NExpr::Call { f, args } => {
             called::<S, C, B>(alloc, site, *f, args.as_slice(), at, below, depth, cells)
@@ -93,8 +114,26 @@ pub(crate) fn condition<S: InScope, C: Cells, B: Below<C>>(
     ensures same { C.scope cells.new ≡ S.scope }
 {
     match cond {
-        NCond::Equal(a, b) => equal::<S, C, B>(alloc, site, a.get(), b.get(), at, below, depth, cells),
-        NCond::Less(a, b) => less::<S, C, B>(alloc, site, a.get(), b.get(), at, below, depth, cells),
+        NCond::Equal(a, b) => equal::<S, C, B>(
+            alloc,
+            site,
+            a.get(),
+            b.get(),
+            at,
+            below,
+            depth,
+            cells,
+        ),
+        NCond::Less(a, b) => less::<S, C, B>(
+            alloc,
+            site,
+            a.get(),
+            b.get(),
+            at,
+            below,
+            depth,
+            cells,
+        ),
         NCond::Has(index) => param_has(alloc, site.params, *index),
         NCond::IsOk(index) => param_is_ok(alloc, site.params, *index),
     }

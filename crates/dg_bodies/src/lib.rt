@@ -17,3 +17,6 @@ pub use operations::field;
 pub use parts::{elements, entry_value, entry_with, inside, production, value_if};
 pub use sets::set_of;
 pub use trees::tree_end;
+
+#[cfg(test)]
+mod tests;

@@ -89,11 +89,7 @@ fn is_among(content: &Value, contents: &[Value]) -> bool
 
 /// Of some values with the content behind each, those whose content is equal to none of a value
 /// that was kept before.
-fn distinct(
-    alloc: Global,
-    values: &[Value],
-    contents: &[Value],
-) -> Result<Items<Value>, NoMemory>
+fn distinct(alloc: Global, values: &[Value], contents: &[Value]) -> Result<Items<Value>, NoMemory>
     ensures exact { IfOk result (λ kept. kept ≡ spec.kept_of [] [] values.now contents.now) }
 {
     let mut kept = Items::new(alloc);
@@ -119,7 +115,11 @@ fn short_set(alloc: Global, values: &[Value]) -> Result<Value, NoMemory>
 }
 
 /// The set of some values by the contents behind them, in the order in which they were looked at.
-fn set_from(alloc: Global, values: &[Value], contents: Vec<Value>) -> Result<Value, NoMemory>
+pub(crate) fn set_from(
+    alloc: Global,
+    values: &[Value],
+    contents: Vec<Value>,
+) -> Result<Value, NoMemory>
     ensures exact { IfOk result (λ set. set
         ≡ value.Set (spec.kept_of [] [] values.now (spec.as_looked_at contents.items))) }
 {
@@ -169,10 +169,7 @@ fn entry_values(alloc: Global, entries: &[Value]) -> Result<Vec<Value>, NoMemory
 }
 
 /// The entry of a map with its value, if it is one.
-fn keyed(
-    alloc: Global,
-    entry: &(MapKeyVal, Value),
-) -> Result<Option<(MapKeyVal, Value)>, NoMemory>
+fn keyed(alloc: Global, entry: &(MapKeyVal, Value)) -> Result<Option<(MapKeyVal, Value)>, NoMemory>
     ensures exact { IfOk result (λ o. o ≡ operations_spec.keyed entry.now) }
 {
     match entry_value(&entry.1) {

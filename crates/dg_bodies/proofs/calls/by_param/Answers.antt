@@ -1,4 +1,4 @@
-use Rattle.std.proofs.Common.{◌≡◌, sym, ap, ◌∙◌}
+use Rattle.std.proofs.Common.{sym, ap, ◌∙◌}
 use Rattle.dg_decl.specs.declared.expression.ParamCall.{ParamCall}
 use Rattle.dg_decl.specs.declared.expression.ParamCall.TheVariants as by_name
 use Rattle.dg_eval.specs.Runs.{and_then}

@@ -1,4 +1,4 @@
-use Rattle.std.proofs.Common.{◌≡◌, refl, map, ap}
+use Rattle.std.proofs.Common.{refl, map, ap}
 use Rattle.std.proofs.lemmas.Result.{err_from_is_err_and}
 use Rattle.dg_eval.specs.Runs.{in_order}
 use Rattle.dg_eval.specs.Operations.{cat_in}

@@ -1,9 +1,8 @@
-use Rattle.std.proofs.Common.{◌≡◌, Ok, Err, sym, ap, ◌∙◌}
+use Rattle.std.proofs.Common.{Ok, Err, sym, ap, ◌∙◌}
 use Rattle.std.proofs.lemmas.Result.{err_from_is_err_and}
 use Rattle.dg_value.specs.declared.place.PlaceStep.TheVariants as step
-use Rattle.dg_value.specs.declared.value.Value.{out-Value}
 use Rattle.dg_value.specs.Places.{then_step}
-use Rattle.dg_eval.specs.Meaning.{eval, got_at, param_in}
+use Rattle.dg_eval.specs.Meaning.{param_in}
 use Rattle.dg_bodies.specs.Sites.{Site, seen}
 use Rattle.dg_bodies.proofs.Steps.{stops, goes_on, on_ok}
 use Rattle.dg_bodies.proofs.PlainRuns.{ran_over, plain_param}

@@ -1,8 +1,6 @@
-use Rattle.std.proofs.Common.{◌≡◌, ◌+◌, [], ◌∷◌, ◌++◌, Bool, List, Option, None, Some, Ok, Err, rules, refl, map, sym, ap, ◌∙◌, arith}
+use Rattle.std.proofs.Common.{Bool, List, Option, Ok, Err, rules, refl, map, sym, ap, ◌∙◌, arith}
 use Rattle.std.proofs.lemmas.Result.{err_from_is_err_and}
 use Rattle.dg_slots.specs.declared.body.NExpr.{the_lemmas}
-use Rattle.dg_slots.specs.declared.body.NExpr.TheVariants as nexpr
-use Rattle.dg_slots.specs.declared.body.NCond.TheVariants as ncond
 use Rattle.dg_value.specs.declared.place.PlaceStep.TheVariants as step
 use Rattle.dg_value.specs.declared.value.Value.{Value}
 use Rattle.dg_value.specs.declared.value.Value.TheVariants as value
@@ -73,20 +71,42 @@ both-returns-in_err-v-clause-ran g t c =
     p.2
 
 pub both-looked-w-requires : goal.both-looked-w-requires
-both-looked-w-requires g t c κs within =
-    (omega (arith, c.decreases), (search rules, (search rules, (search rules, (c.requires.fit,
-      (c.requires.below, (c.requires.deep, (c.looked.ensures.same, (
-      let s = g.S.InScope.scope in
-      let see = seen s c.args.depth c.args.site.now in
-      let at = c.args.at.now in
-      let a = expr_part c.args.a.now in
-      let b = expr_part c.args.b.now in
-      let next : Value → Run (Value × Value) = λ w. gives (c.in_ok-v.v, w) in
-      let is = pair_run a b see at c.looked.new.at c.in_ok-v.ensures.after in
-      let rest = can_go_on s _ (run_at (looked_part a) see at) _ c.in_ok-v.v _ _ is c.requires.can
-      c.in_ok-v.ensures.ran in
-      can_begin s _ (run_at (looked_part b) see c.looked.new.at) next refl rest
-      ))))))))) 
+both-looked-w-requires g t c κs within = (
+  omega (arith, c.decreases),
+  (
+    search rules,
+    (
+      search rules,
+      (
+        search rules,
+        (
+          c.requires.fit,
+          (
+            c.requires.below,
+            (
+              c.requires.deep,
+              (
+                c.looked.ensures.same,
+                (
+                    let s = g.S.InScope.scope in
+                    let see = seen s c.args.depth c.args.site.now in
+                    let at = c.args.at.now in
+                    let a = expr_part c.args.a.now in
+                    let b = expr_part c.args.b.now in
+                    let next : Value → Run (Value × Value) = λ w. gives (c.in_ok-v.v, w) in
+                    let is = pair_run a b see at c.looked.new.at c.in_ok-v.ensures.after in
+                    let rest = can_go_on s _ (run_at (looked_part a) see at) _ c.in_ok-v.v _ _ is c.requires.can
+                    c.in_ok-v.ensures.ran in
+                    can_begin s _ (run_at (looked_part b) see c.looked.new.at) next refl rest
+                    ),
+              ),
+            ),
+          ),
+        ),
+      ),
+    ),
+  ),
+)
 
 pub both-returns-clause-ran : goal.both-returns-clause-ran
 both-returns-clause-ran g t c =
@@ -119,16 +139,38 @@ both-returns-clause-after g t c =
 -- ---- sum
 
 pub sum-both-requires : goal.sum-both-requires
-sum-both-requires g t c κs within =
-    (omega (arith, c.decreases), (search rules, (search rules, (search rules, (c.requires.fit,
-      (c.requires.below, (c.requires.deep, (c.requires.same, (
-      let s = g.S.InScope.scope in
-      let see = seen s c.args.depth c.args.site.now in
-      let at = c.args.at.now in
-      let pair = run_at (pair_part (expr_part c.args.a.now) (expr_part c.args.b.now)) see at in
-      let is = sum_run c.args.a.now c.args.b.now see at in
-      can_begin s _ pair _ is c.requires.can
-      ))))))))) 
+sum-both-requires g t c κs within = (
+  omega (arith, c.decreases),
+  (
+    search rules,
+    (
+      search rules,
+      (
+        search rules,
+        (
+          c.requires.fit,
+          (
+            c.requires.below,
+            (
+              c.requires.deep,
+              (
+                c.requires.same,
+                (
+                    let s = g.S.InScope.scope in
+                    let see = seen s c.args.depth c.args.site.now in
+                    let at = c.args.at.now in
+                    let pair = run_at (pair_part (expr_part c.args.a.now) (expr_part c.args.b.now)) see at in
+                    let is = sum_run c.args.a.now c.args.b.now see at in
+                    can_begin s _ pair _ is c.requires.can
+                    ),
+              ),
+            ),
+          ),
+        ),
+      ),
+    ),
+  ),
+)
 
 pub sum-returns-in_err-pair-clause-ran : goal.sum-returns-in_err-pair-clause-ran
 sum-returns-in_err-pair-clause-ran g t c =
@@ -165,16 +207,38 @@ sum-returns-clause-after g t c =
 -- ---- equal
 
 pub equal-both-requires : goal.equal-both-requires
-equal-both-requires g t c κs within =
-    (omega (arith, c.decreases), (search rules, (search rules, (search rules, (c.requires.fit,
-      (c.requires.below, (c.requires.deep, (c.requires.same, (
-      let s = g.S.InScope.scope in
-      let see = seen s c.args.depth c.args.site.now in
-      let at = c.args.at.now in
-      let pair = run_at (pair_part (expr_part c.args.a.now) (expr_part c.args.b.now)) see at in
-      let is = equal_run c.args.a.now c.args.b.now see at in
-      can_begin s _ pair _ is c.requires.can
-      ))))))))) 
+equal-both-requires g t c κs within = (
+  omega (arith, c.decreases),
+  (
+    search rules,
+    (
+      search rules,
+      (
+        search rules,
+        (
+          c.requires.fit,
+          (
+            c.requires.below,
+            (
+              c.requires.deep,
+              (
+                c.requires.same,
+                (
+                    let s = g.S.InScope.scope in
+                    let see = seen s c.args.depth c.args.site.now in
+                    let at = c.args.at.now in
+                    let pair = run_at (pair_part (expr_part c.args.a.now) (expr_part c.args.b.now)) see at in
+                    let is = equal_run c.args.a.now c.args.b.now see at in
+                    can_begin s _ pair _ is c.requires.can
+                    ),
+              ),
+            ),
+          ),
+        ),
+      ),
+    ),
+  ),
+)
 
 pub equal-returns-in_err-pair-clause-ran : goal.equal-returns-in_err-pair-clause-ran
 equal-returns-in_err-pair-clause-ran g t c =
@@ -209,16 +273,38 @@ equal-returns-clause-after g t c =
 -- ---- less
 
 pub less-both-requires : goal.less-both-requires
-less-both-requires g t c κs within =
-    (omega (arith, c.decreases), (search rules, (search rules, (search rules, (c.requires.fit,
-      (c.requires.below, (c.requires.deep, (c.requires.same, (
-      let s = g.S.InScope.scope in
-      let see = seen s c.args.depth c.args.site.now in
-      let at = c.args.at.now in
-      let pair = run_at (pair_part (expr_part c.args.a.now) (expr_part c.args.b.now)) see at in
-      let is = less_run c.args.a.now c.args.b.now see at in
-      can_begin s _ pair _ is c.requires.can
-      ))))))))) 
+less-both-requires g t c κs within = (
+  omega (arith, c.decreases),
+  (
+    search rules,
+    (
+      search rules,
+      (
+        search rules,
+        (
+          c.requires.fit,
+          (
+            c.requires.below,
+            (
+              c.requires.deep,
+              (
+                c.requires.same,
+                (
+                    let s = g.S.InScope.scope in
+                    let see = seen s c.args.depth c.args.site.now in
+                    let at = c.args.at.now in
+                    let pair = run_at (pair_part (expr_part c.args.a.now) (expr_part c.args.b.now)) see at in
+                    let is = less_run c.args.a.now c.args.b.now see at in
+                    can_begin s _ pair _ is c.requires.can
+                    ),
+              ),
+            ),
+          ),
+        ),
+      ),
+    ),
+  ),
+)
 
 pub less-returns-in_err-pair-clause-ran : goal.less-returns-in_err-pair-clause-ran
 less-returns-in_err-pair-clause-ran g t c =
@@ -253,16 +339,38 @@ less-returns-clause-after g t c =
 -- ---- fields
 
 pub field_of-looked-requires : goal.field_of-looked-requires
-field_of-looked-requires g t c κs within =
-    (search (rules, the_lemmas), (search rules, (search rules, (search rules, (c.requires.fit,
-      (c.requires.below, (c.requires.deep, (c.requires.same, (
-      let s = g.S.InScope.scope in
-      let see = seen s c.args.depth c.args.site.now in
-      let at = c.args.at.now in
-      let of = run_at (looked_part (expr_part c.args.of.now)) see at in
-      let is = field_run c.args.of.now c.args.field see at in
-      can_begin s _ of (field_in c.args.field) is c.requires.can
-      ))))))))) 
+field_of-looked-requires g t c κs within = (
+  search (rules, the_lemmas),
+  (
+    search rules,
+    (
+      search rules,
+      (
+        search rules,
+        (
+          c.requires.fit,
+          (
+            c.requires.below,
+            (
+              c.requires.deep,
+              (
+                c.requires.same,
+                (
+                    let s = g.S.InScope.scope in
+                    let see = seen s c.args.depth c.args.site.now in
+                    let at = c.args.at.now in
+                    let of = run_at (looked_part (expr_part c.args.of.now)) see at in
+                    let is = field_run c.args.of.now c.args.field see at in
+                    can_begin s _ of (field_in c.args.field) is c.requires.can
+                    ),
+              ),
+            ),
+          ),
+        ),
+      ),
+    ),
+  ),
+)
 
 pub field_of-returns-in_err-object-clause-ran : goal.field_of-returns-in_err-object-clause-ran
 field_of-returns-in_err-object-clause-ran g t c =
@@ -308,17 +416,39 @@ arguments-loop-arg-init g t c =
     }
 
 pub arguments-expression-requires : goal.arguments-expression-requires
-arguments-expression-requires g t c κs within =
-    (search (rules, the_lemmas), (search rules, (search rules, (search rules, (c.requires.fit,
-      (c.requires.below, (c.requires.deep, (c.loop-arg.invariant.same, (
-      let s = g.S.InScope.scope in
-      let see = seen s c.args.depth c.args.site.now in
-      let at = c.args.at.now in
-      let rs = runs c.args.args.now see at in
-      let here = run_here see c.args.args.now at c.loop-arg.arg-index c.loop-arg.at c.arg-item.result
-      c.loop-arg.invariant.row c.loop-arg-test.true c.arg-item.is in
-      passed_can s rs _ _ _ _ _ c.requires.can c.loop-arg.invariant.passed here
-      ))))))))) 
+arguments-expression-requires g t c κs within = (
+  search (rules, the_lemmas),
+  (
+    search rules,
+    (
+      search rules,
+      (
+        search rules,
+        (
+          c.requires.fit,
+          (
+            c.requires.below,
+            (
+              c.requires.deep,
+              (
+                c.loop-arg.invariant.same,
+                (
+                    let s = g.S.InScope.scope in
+                    let see = seen s c.args.depth c.args.site.now in
+                    let at = c.args.at.now in
+                    let rs = runs c.args.args.now see at in
+                    let here = run_here see c.args.args.now at c.loop-arg.arg-index c.loop-arg.at c.arg-item.result
+                    c.loop-arg.invariant.row c.loop-arg-test.true c.arg-item.is in
+                    passed_can s rs _ _ _ _ _ c.requires.can c.loop-arg.invariant.passed here
+                    ),
+              ),
+            ),
+          ),
+        ),
+      ),
+    ),
+  ),
+)
 
 pub arguments-returns-in_err-expression-clause-ran : goal.arguments-returns-in_err-expression-clause-ran
 arguments-returns-in_err-expression-clause-ran g t c =
@@ -384,19 +514,41 @@ arguments-returns-clause-after g t c =
 -- ---- objects
 
 pub object-arguments-requires : goal.object-arguments-requires
-object-arguments-requires g t c κs within =
-    (search (rules, the_lemmas), (search rules, (search rules, (search rules, (c.requires.fit,
-      (c.requires.below, (c.requires.deep, (c.requires.same, (
-      let s = g.S.InScope.scope in
-      let see = seen s c.args.depth c.args.site.now in
-      let at = c.args.at.now in
-      let number = c.in_ok-number.number in
-      let args = run_at (row (map expr_part c.args.args.now)) see c.next_new.new.at in
-      let is = object_run c.args.class c.args.args.now see at c.next_new.new.at number
-      (then_step c.args.site.now.place (step.New number)) c.in_ok-number.ensures.after
-      c.in_ok-number.ensures.exact refl in
-      can_begin s _ args _ is c.requires.can
-      ))))))))) 
+object-arguments-requires g t c κs within = (
+  search (rules, the_lemmas),
+  (
+    search rules,
+    (
+      search rules,
+      (
+        search rules,
+        (
+          c.requires.fit,
+          (
+            c.requires.below,
+            (
+              c.requires.deep,
+              (
+                c.requires.same,
+                (
+                    let s = g.S.InScope.scope in
+                    let see = seen s c.args.depth c.args.site.now in
+                    let at = c.args.at.now in
+                    let number = c.in_ok-number.number in
+                    let args = run_at (row (map expr_part c.args.args.now)) see c.next_new.new.at in
+                    let is = object_run c.args.class c.args.args.now see at c.next_new.new.at number
+                    (then_step c.args.site.now.place (step.New number)) c.in_ok-number.ensures.after
+                    c.in_ok-number.ensures.exact refl in
+                    can_begin s _ args _ is c.requires.can
+                    ),
+              ),
+            ),
+          ),
+        ),
+      ),
+    ),
+  ),
+)
 
 pub object-returns-in_err-fields-clause-ran : goal.object-returns-in_err-fields-clause-ran
 object-returns-in_err-fields-clause-ran g t c =
@@ -441,7 +593,7 @@ object-returns-clause-ran g t c =
     (ran_value s _ c.in_ok-made_object.field-0 _
     (c.in_ok-made_object.ensures.exact
     ∙ ap (λ (u : Site). value.Object c.args.class (then_step u.place (step.New number))
-      c.in_ok-fields.fields) c.site.view_is))
+    c.in_ok-fields.fields) c.site.view_is))
 
 pub object-returns-clause-after : goal.object-returns-clause-after
 object-returns-clause-after g t c =
@@ -453,17 +605,39 @@ object-returns-clause-after g t c =
 -- ---- calls
 
 pub called-arguments-requires : goal.called-arguments-requires
-called-arguments-requires g t c κs within =
-    (search (rules, the_lemmas), (search rules, (search rules, (search rules, (c.requires.fit,
-      (c.requires.below, (c.requires.deep, (c.requires.same, (
-      let s = g.S.InScope.scope in
-      let see = seen s c.args.depth c.args.site.now in
-      let at = c.args.at.now in
-      let args = run_at (row (map expr_part c.args.args.now)) see at in
-      let is = called_run c.args.f c.args.args.now see at in
-      let made : List Value → Run Value = called_with c.args.f see in
-      can_begin s _ args made is c.requires.can
-      ))))))))) 
+called-arguments-requires g t c κs within = (
+  search (rules, the_lemmas),
+  (
+    search rules,
+    (
+      search rules,
+      (
+        search rules,
+        (
+          c.requires.fit,
+          (
+            c.requires.below,
+            (
+              c.requires.deep,
+              (
+                c.requires.same,
+                (
+                    let s = g.S.InScope.scope in
+                    let see = seen s c.args.depth c.args.site.now in
+                    let at = c.args.at.now in
+                    let args = run_at (row (map expr_part c.args.args.now)) see at in
+                    let is = called_run c.args.f c.args.args.now see at in
+                    let made : List Value → Run Value = called_with c.args.f see in
+                    can_begin s _ args made is c.requires.can
+                    ),
+              ),
+            ),
+          ),
+        ),
+      ),
+    ),
+  ),
+)
 
 pub called-returns-in_err-values-clause-ran : goal.called-returns-in_err-values-clause-ran
 called-returns-in_err-values-clause-ran g t c =
@@ -510,19 +684,41 @@ called-returns-clause-after g t c =
 -- ---- choices
 
 pub chosen-condition-requires : goal.chosen-condition-requires
-chosen-condition-requires g t c κs within =
-    (omega (arith, c.decreases), (search rules, (search rules, (search rules, (c.requires.fit,
-      (c.requires.below, (c.requires.deep, (c.requires.same, (
-      let s = g.S.InScope.scope in
-      let see = seen s c.args.depth c.args.site.now in
-      let at = c.args.at.now in
-      let a = expr_part c.args.yes.now in
-      let b = expr_part c.args.no.now in
-      let first = run_at (cond_part c.args.cond.now) see at in
-      can_begin s _ first _
-      (if_run c.args.cond.now c.args.yes.now c.args.no.now see at (after (cond_part c.args.cond.now) at)
-      (after a (after (cond_part c.args.cond.now) at)) refl refl) c.requires.can
-      ))))))))) 
+chosen-condition-requires g t c κs within = (
+  omega (arith, c.decreases),
+  (
+    search rules,
+    (
+      search rules,
+      (
+        search rules,
+        (
+          c.requires.fit,
+          (
+            c.requires.below,
+            (
+              c.requires.deep,
+              (
+                c.requires.same,
+                (
+                    let s = g.S.InScope.scope in
+                    let see = seen s c.args.depth c.args.site.now in
+                    let at = c.args.at.now in
+                    let a = expr_part c.args.yes.now in
+                    let b = expr_part c.args.no.now in
+                    let first = run_at (cond_part c.args.cond.now) see at in
+                    can_begin s _ first _
+                    (if_run c.args.cond.now c.args.yes.now c.args.no.now see at (after (cond_part c.args.cond.now) at)
+                    (after a (after (cond_part c.args.cond.now) at)) refl refl) c.requires.can
+                    ),
+              ),
+            ),
+          ),
+        ),
+      ),
+    ),
+  ),
+)
 
 pub chosen-returns-in_err-condition-clause-ran : goal.chosen-returns-in_err-condition-clause-ran
 chosen-returns-in_err-condition-clause-ran g t c =
@@ -539,46 +735,90 @@ chosen-returns-in_err-condition-clause-ran g t c =
     c.in_err-condition.ensures.ran p.1 p.2
 
 pub chosen-expression-requires : goal.chosen-expression-requires
-chosen-expression-requires g t c κs within =
-    (omega (arith, c.decreases), (search rules, (search rules, (search rules, (c.requires.fit,
-      (c.requires.below, (c.requires.deep, (c.condition.ensures.same, (
-      let s = g.S.InScope.scope in
-      let see = seen s c.args.depth c.args.site.now in
-      let at = c.args.at.now in
-      let a = expr_part c.args.yes.now in
-      let b = expr_part c.args.no.now in
-      let first = run_at (cond_part c.args.cond.now) see at in
-      let then_at = c.condition.new.at in
-      let else_at = after a then_at in
-      let q = run_at a see then_at in
-      let r = run_at b see else_at in
-      let holds = c.in_ok-condition.field-0 in
-      let is = if_run c.args.cond.now c.args.yes.now c.args.no.now see at then_at else_at
-      c.in_ok-condition.ensures.after refl in
-      let rest = can_go_on s _ first _ holds _ _ is c.requires.can c.in_ok-condition.ensures.ran in
-      can_true s holds q r c.if-branch.true rest
-      ))))))))) 
+chosen-expression-requires g t c κs within = (
+  omega (arith, c.decreases),
+  (
+    search rules,
+    (
+      search rules,
+      (
+        search rules,
+        (
+          c.requires.fit,
+          (
+            c.requires.below,
+            (
+              c.requires.deep,
+              (
+                c.condition.ensures.same,
+                (
+                    let s = g.S.InScope.scope in
+                    let see = seen s c.args.depth c.args.site.now in
+                    let at = c.args.at.now in
+                    let a = expr_part c.args.yes.now in
+                    let b = expr_part c.args.no.now in
+                    let first = run_at (cond_part c.args.cond.now) see at in
+                    let then_at = c.condition.new.at in
+                    let else_at = after a then_at in
+                    let q = run_at a see then_at in
+                    let r = run_at b see else_at in
+                    let holds = c.in_ok-condition.field-0 in
+                    let is = if_run c.args.cond.now c.args.yes.now c.args.no.now see at then_at else_at
+                    c.in_ok-condition.ensures.after refl in
+                    let rest = can_go_on s _ first _ holds _ _ is c.requires.can c.in_ok-condition.ensures.ran in
+                    can_true s holds q r c.if-branch.true rest
+                    ),
+              ),
+            ),
+          ),
+        ),
+      ),
+    ),
+  ),
+)
 
 pub chosen-expression-requires-else-branch : goal.chosen-expression-requires-else-branch
-chosen-expression-requires-else-branch g t c κs within =
-    (omega (arith, c.decreases), (search rules, (search rules, (search rules, (c.requires.fit,
-      (c.requires.below, (c.requires.deep, (c.condition.ensures.same, (
-      let s = g.S.InScope.scope in
-      let see = seen s c.args.depth c.args.site.now in
-      let at = c.args.at.now in
-      let a = expr_part c.args.yes.now in
-      let b = expr_part c.args.no.now in
-      let first = run_at (cond_part c.args.cond.now) see at in
-      let then_at = c.condition.new.at in
-      let else_at = c.pass_expression-else-branch.new.at in
-      let q = run_at a see then_at in
-      let r = run_at b see else_at in
-      let holds = c.in_ok-condition.field-0 in
-      let is = if_run c.args.cond.now c.args.yes.now c.args.no.now see at then_at else_at
-      c.in_ok-condition.ensures.after c.in_ok-pass_expression.ensures.after in
-      let rest = can_go_on s _ first _ holds _ _ is c.requires.can c.in_ok-condition.ensures.ran in
-      can_false s holds q r c.if-branch.false rest
-      ))))))))) 
+chosen-expression-requires-else-branch g t c κs within = (
+  omega (arith, c.decreases),
+  (
+    search rules,
+    (
+      search rules,
+      (
+        search rules,
+        (
+          c.requires.fit,
+          (
+            c.requires.below,
+            (
+              c.requires.deep,
+              (
+                c.condition.ensures.same,
+                (
+                    let s = g.S.InScope.scope in
+                    let see = seen s c.args.depth c.args.site.now in
+                    let at = c.args.at.now in
+                    let a = expr_part c.args.yes.now in
+                    let b = expr_part c.args.no.now in
+                    let first = run_at (cond_part c.args.cond.now) see at in
+                    let then_at = c.condition.new.at in
+                    let else_at = c.pass_expression-else-branch.new.at in
+                    let q = run_at a see then_at in
+                    let r = run_at b see else_at in
+                    let holds = c.in_ok-condition.field-0 in
+                    let is = if_run c.args.cond.now c.args.yes.now c.args.no.now see at then_at else_at
+                    c.in_ok-condition.ensures.after c.in_ok-pass_expression.ensures.after in
+                    let rest = can_go_on s _ first _ holds _ _ is c.requires.can c.in_ok-condition.ensures.ran in
+                    can_false s holds q r c.if-branch.false rest
+                    ),
+              ),
+            ),
+          ),
+        ),
+      ),
+    ),
+  ),
+)
 
 pub chosen-returns-in_err-value-clause-ran : goal.chosen-returns-in_err-value-clause-ran
 chosen-returns-in_err-value-clause-ran g t c =
@@ -696,28 +936,50 @@ chosen-returns-in_ok-pass_expression-clause-after g t c =
 -- ---- optionals
 
 pub or_else-expression-requires : goal.or_else-expression-requires
-or_else-expression-requires g t c κs within =
-    (search (rules, the_lemmas), (search rules, (search rules, (search rules, (c.requires.fit,
-      (c.requires.below, (c.requires.deep, (c.requires.same, (
-      let s = g.S.InScope.scope in
-      let see = seen s c.args.depth c.args.site.now in
-      let at = c.args.at.now in
-      let i = c.args.param in
-      let inside : List Value → Run (Option Value) =
-      λ l. and_then (param_in l i) (λ v. or_mistyped (inside_in v)) in
-      let view = ap (λ (u : Site). u.params) c.site.view_is in
-      let plain = plain_then (param_in c.site.inside.params.now i) (λ v. or_mistyped (inside_in v))
-      (plain_param c.site.inside.params.now i) plain_inside in
-      let first = inside c.args.site.now.params in
-      let other = run_at (expr_part c.args.other.now) see at in
-      let next : Option Value → Run Value = λ o. or_other o other in
-      let is = or_else_run i c.args.other.now see at in
-      let o = c.in_ok-param_inside.field-0 in
-      let gave = ran_over s c.site.inside.params.now c.args.site.now.params inside
-      (g.C.Cells.asked c.args.cells.now) (Ok o) view plain c.in_ok-param_inside.ensures.exact in
-      can_as s (next o) other (ap next c.in-None.is)
-      (can_go_on s _ first next o _ _ is c.requires.can gave)
-      ))))))))) 
+or_else-expression-requires g t c κs within = (
+  search (rules, the_lemmas),
+  (
+    search rules,
+    (
+      search rules,
+      (
+        search rules,
+        (
+          c.requires.fit,
+          (
+            c.requires.below,
+            (
+              c.requires.deep,
+              (
+                c.requires.same,
+                (
+                    let s = g.S.InScope.scope in
+                    let see = seen s c.args.depth c.args.site.now in
+                    let at = c.args.at.now in
+                    let i = c.args.param in
+                    let inside : List Value → Run (Option Value) =
+                    λ l. and_then (param_in l i) (λ v. or_mistyped (inside_in v)) in
+                    let view = ap (λ (u : Site). u.params) c.site.view_is in
+                    let plain = plain_then (param_in c.site.inside.params.now i) (λ v. or_mistyped (inside_in v))
+                    (plain_param c.site.inside.params.now i) plain_inside in
+                    let first = inside c.args.site.now.params in
+                    let other = run_at (expr_part c.args.other.now) see at in
+                    let next : Option Value → Run Value = λ o. or_other o other in
+                    let is = or_else_run i c.args.other.now see at in
+                    let o = c.in_ok-param_inside.field-0 in
+                    let gave = ran_over s c.site.inside.params.now c.args.site.now.params inside
+                    (g.C.Cells.asked c.args.cells.now) (Ok o) view plain c.in_ok-param_inside.ensures.exact in
+                    can_as s (next o) other (ap next c.in-None.is)
+                    (can_go_on s _ first next o _ _ is c.requires.can gave)
+                    ),
+              ),
+            ),
+          ),
+        ),
+      ),
+    ),
+  ),
+)
 
 pub or_else-returns-in_err-param_inside-clause-ran : goal.or_else-returns-in_err-param_inside-clause-ran
 or_else-returns-in_err-param_inside-clause-ran g t c =
@@ -920,4 +1182,3 @@ expression-returns-in-ByName-clause-after g t c =
     on_ok_map c.by_param.result _ _
     (λ e. e ∙ sym (ap (λ (u : NExpr). after (expr_part u) c.args.at.now) c.in-ByName.is
     ∙ after_by_name c.in-ByName.f c.in-ByName.param c.args.at.now)) c.by_param.ensures.after
-

@@ -2,8 +2,7 @@ use Rattle.std.proofs.Common.{◌≡◌, refl, ap}
 use Rattle.std.proofs.lemmas.Result.{err_from_is_err_and}
 use Rattle.dg_eval.specs.Meaning.{look, eval}
 use Rattle.dg_bodies.specs.Elements.{listed}
-use Rattle.dg_bodies.proofs.RunLists.{passed_can, passed_next, passed_stops, passed_nothing, passed_all, stops_as, mapped_at}
-use Rattle.dg_bodies.proofs.SetLemmas.{order_then}
+use Rattle.dg_bodies.proofs.RunLists.{passed_can, passed_next, passed_stops, passed_nothing, stops_as, mapped_at}
 use Rattle.dg_bodies.proofs.sets.look_all.Goals as goal
 
 pub returns-in_err-value-clause-ran : goal.returns-in_err-value-clause-ran
@@ -48,7 +47,7 @@ returns-in_err-push-clause-ran g c =
     refl))
 
 pub loop-value-preserved : goal.loop-value-preserved
-loop-value-preserved g c = 
+loop-value-preserved g c =
     let f = look (eval g.S.InScope.scope.doc c.args.depth) c.args.depth in
     record {
       passed = passed_next g.S.InScope.scope _ _ (f c.in_ok-value.value) _ _ _ _ _ _ c.requires.can

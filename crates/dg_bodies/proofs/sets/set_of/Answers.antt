@@ -1,7 +1,7 @@
-use Rattle.std.proofs.Common.{◌≡◌, Err, refl, ap, sym, ◌∙◌, arith}
+use Rattle.std.proofs.Common.{◌≡◌, ◌∙◌, arith}
 use Rattle.std.proofs.lemmas.Result.{err_from_is_err_and}
 use Rattle.dg_eval.specs.Meaning.{look, eval}
-use Rattle.dg_requests.proofs.RanLemmas.{ran_plain, ran_nothing}
+use Rattle.dg_requests.proofs.RanLemmas.{ran_nothing}
 use Rattle.dg_bodies.proofs.RunLists.{stops_as}
 use Rattle.dg_bodies.proofs.SetLemmas.{set_can, set_ran, set_stops, set_short, set_made}
 use Rattle.dg_bodies.proofs.sets.set_of.Goals as goal

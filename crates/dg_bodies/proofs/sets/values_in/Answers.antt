@@ -1,4 +1,4 @@
-use Rattle.std.proofs.Common.{◌≡◌, sym}
+use Rattle.std.proofs.Common.{sym}
 use Rattle.dg_value.specs.declared.value.Value.{out-Value}
 use Rattle.dg_eval.specs.Meaning.{look, eval}
 use Rattle.dg_requests.proofs.RanLemmas.{ran_as}

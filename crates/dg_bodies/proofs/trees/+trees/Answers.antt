@@ -1,9 +1,7 @@
-use Rattle.std.proofs.Common.{◌≡◌, rules, refl, sym, ap, ◌∙◌, arith}
+use Rattle.std.proofs.Common.{rules, refl, sym, ap, ◌∙◌, arith}
 use Rattle.std.proofs.lemmas.Result.{err_from_is_err_and}
-use Rattle.dg_eval.specs.Runs.{Run}
-use Rattle.dg_eval.specs.Bodies.{End, cond_part, tree_part}
+use Rattle.dg_eval.specs.Bodies.{cond_part, tree_part}
 use Rattle.dg_requests.specs.Results.{as_end, ends}
-use Rattle.dg_requests.proofs.RanLemmas.{can_as, ran_as}
 use Rattle.dg_bodies.specs.declared.counters.NewsAndCalls.{NewsAndCalls}
 use Rattle.dg_bodies.specs.Counts.{after}
 use Rattle.dg_bodies.specs.Sites.{seen, run_at}
@@ -42,48 +40,102 @@ chosen-returns-in_err-condition-clause-ran g t c =
     c.requires.can c.in_err-condition.ensures.ran (ap ends p.1) p.2
 
 pub chosen-tree-requires : goal.chosen-tree-requires
-chosen-tree-requires g t c κs within =
-    (omega (arith, c.decreases), (search rules, (search rules, (search rules, (c.requires.fit,
-      (c.requires.of_world, (awaits_yes _ _ c.args.cond.now c.args.yes.now c.args.no.now c.requires.awaits,
-      (c.requires.below, (c.requires.deep, (c.condition.ensures.same, (
-      let s = g.S.InScope.scope in
-      let see = seen s c.args.depth c.args.site.now in
-      let at = c.args.at.now in
-      let a = tree_part c.args.yes.now in
-      let b = tree_part c.args.no.now in
-      let first = run_at (cond_part c.args.cond.now) see at in
-      let then_at = c.condition.new.at in
-      let else_at = after a then_at in
-      let q = run_at a see then_at in
-      let r = run_at b see else_at in
-      let holds = c.in_ok-condition.field-0 in
-      let is = choice_run c.args.cond.now c.args.yes.now c.args.no.now see at then_at else_at
-      c.in_ok-condition.ensures.after refl in
-      let rest = can_go_on s _ first _ holds _ _ is c.requires.can c.in_ok-condition.ensures.ran in
-      can_true s holds q r c.if-branch.true rest
-      )))))))))))
+chosen-tree-requires g t c κs within = (
+  omega (arith, c.decreases),
+  (
+    search rules,
+    (
+      search rules,
+      (
+        search rules,
+        (
+          c.requires.fit,
+          (
+            c.requires.of_world,
+            (
+              awaits_yes _ _ c.args.cond.now c.args.yes.now c.args.no.now c.requires.awaits,
+              (
+                c.requires.below,
+                (
+                  c.requires.deep,
+                  (
+                    c.condition.ensures.same,
+                    (
+                        let s = g.S.InScope.scope in
+                        let see = seen s c.args.depth c.args.site.now in
+                        let at = c.args.at.now in
+                        let a = tree_part c.args.yes.now in
+                        let b = tree_part c.args.no.now in
+                        let first = run_at (cond_part c.args.cond.now) see at in
+                        let then_at = c.condition.new.at in
+                        let else_at = after a then_at in
+                        let q = run_at a see then_at in
+                        let r = run_at b see else_at in
+                        let holds = c.in_ok-condition.field-0 in
+                        let is = choice_run c.args.cond.now c.args.yes.now c.args.no.now see at then_at else_at
+                        c.in_ok-condition.ensures.after refl in
+                        let rest = can_go_on s _ first _ holds _ _ is c.requires.can c.in_ok-condition.ensures.ran in
+                        can_true s holds q r c.if-branch.true rest
+                        ),
+                  ),
+                ),
+              ),
+            ),
+          ),
+        ),
+      ),
+    ),
+  ),
+)
 
 pub chosen-tree-requires-else-branch : goal.chosen-tree-requires-else-branch
-chosen-tree-requires-else-branch g t c κs within =
-    (omega (arith, c.decreases), (search rules, (search rules, (search rules, (c.requires.fit,
-      (c.requires.of_world, (awaits_no _ _ c.args.cond.now c.args.yes.now c.args.no.now c.requires.awaits,
-      (c.requires.below, (c.requires.deep, (c.condition.ensures.same, (
-      let s = g.S.InScope.scope in
-      let see = seen s c.args.depth c.args.site.now in
-      let at = c.args.at.now in
-      let a = tree_part c.args.yes.now in
-      let b = tree_part c.args.no.now in
-      let first = run_at (cond_part c.args.cond.now) see at in
-      let then_at = c.condition.new.at in
-      let else_at = c.pass_tree-else-branch.new.at in
-      let q = run_at a see then_at in
-      let r = run_at b see else_at in
-      let holds = c.in_ok-condition.field-0 in
-      let is = choice_run c.args.cond.now c.args.yes.now c.args.no.now see at then_at else_at
-      c.in_ok-condition.ensures.after c.in_ok-pass_tree.ensures.after in
-      let rest = can_go_on s _ first _ holds _ _ is c.requires.can c.in_ok-condition.ensures.ran in
-      can_false s holds q r c.if-branch.false rest
-      )))))))))))
+chosen-tree-requires-else-branch g t c κs within = (
+  omega (arith, c.decreases),
+  (
+    search rules,
+    (
+      search rules,
+      (
+        search rules,
+        (
+          c.requires.fit,
+          (
+            c.requires.of_world,
+            (
+              awaits_no _ _ c.args.cond.now c.args.yes.now c.args.no.now c.requires.awaits,
+              (
+                c.requires.below,
+                (
+                  c.requires.deep,
+                  (
+                    c.condition.ensures.same,
+                    (
+                        let s = g.S.InScope.scope in
+                        let see = seen s c.args.depth c.args.site.now in
+                        let at = c.args.at.now in
+                        let a = tree_part c.args.yes.now in
+                        let b = tree_part c.args.no.now in
+                        let first = run_at (cond_part c.args.cond.now) see at in
+                        let then_at = c.condition.new.at in
+                        let else_at = c.pass_tree-else-branch.new.at in
+                        let q = run_at a see then_at in
+                        let r = run_at b see else_at in
+                        let holds = c.in_ok-condition.field-0 in
+                        let is = choice_run c.args.cond.now c.args.yes.now c.args.no.now see at then_at else_at
+                        c.in_ok-condition.ensures.after c.in_ok-pass_tree.ensures.after in
+                        let rest = can_go_on s _ first _ holds _ _ is c.requires.can c.in_ok-condition.ensures.ran in
+                        can_false s holds q r c.if-branch.false rest
+                        ),
+                  ),
+                ),
+              ),
+            ),
+          ),
+        ),
+      ),
+    ),
+  ),
+)
 
 pub chosen-returns-in_err-end-clause-ran : goal.chosen-returns-in_err-end-clause-ran
 chosen-returns-in_err-end-clause-ran g t c =
@@ -199,4 +251,3 @@ chosen-returns-in_ok-pass_tree-clause-after g t c =
     ∙ ap (λ (u : NewsAndCalls). after a u) c.in_ok-condition.ensures.after)
     ∙ sym (after_choice c.args.cond.now c.args.yes.now c.args.no.now at))
     c.tree-else-branch.ensures.after
-

@@ -1,9 +1,8 @@
-use Rattle.std.proofs.Common.{◌≡◌, Ok, Err, List, sym, ap, subst, ◌∙◌}
+use Rattle.std.proofs.Common.{Ok, Err, List, sym, ap, subst, ◌∙◌}
 use Rattle.std.proofs.lemmas.Result.{err_from_is_err_and}
 use Rattle.dg_value.specs.declared.place.PlaceStep.TheVariants as step
 use Rattle.dg_value.specs.declared.value.Value.{Value}
 use Rattle.dg_value.specs.Places.{then_step}
-use Rattle.dg_eval.specs.Runs.{Run}
 use Rattle.dg_eval.specs.Meaning.{param_in}
 use Rattle.dg_requests.specs.Results.{Gave, ends}
 use Rattle.dg_bodies.specs.Sites.{Site, seen}
