@@ -4,6 +4,3 @@ pub mod Output
 pub mod Runs
 pub mod Input
 pub mod Answers
-pub mod Ends
-pub mod Progress
-pub mod Prepared

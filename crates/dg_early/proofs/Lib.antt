@@ -1,0 +1,15 @@
+pub mod OneReading
+pub mod ListLemmas
+pub mod SplitLemmas
+pub mod ReadingLemmas
+pub mod ConditionLemmas
+pub mod TableLemmas
+pub mod ComponentLemmas
+pub mod BindingLemmas
+pub mod KnownLemmas
+pub mod DraftLemmas
+pub mod ComponentBindingLemmas
+pub mod PrintLemmas
+pub mod EvaluationLemmas
+pub mod TotalityLemmas
+pub mod NumberLemmas
