@@ -3,4 +3,9 @@ pub mod ReadingLemmas
 pub mod OutputLemmas
 pub mod RunLemmas
 pub mod AnswerLemmas
+pub mod EndLemmas
 pub mod StageLemmas
+pub mod CountLemmas
+pub mod UsedLemmas
+pub mod LineLemmas
+pub mod HeldLemmas

@@ -4,3 +4,6 @@ pub mod Output
 pub mod Runs
 pub mod Input
 pub mod Answers
+pub mod Ends
+pub mod Progress
+pub mod Prepared

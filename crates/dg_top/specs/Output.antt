@@ -1,12 +1,8 @@
 -- The status and the text that belong to a program, its words and the bytes of its input.
-use Rattle.std.specs.Prelude.{◌≡◌, ◌≢◌, ◌⊎◌, ◌<◌, ◌≤◌, ℕ, List, [], ◌∷◌, ◌++◌, length}
+use Rattle.std.specs.Prelude.{◌≡◌, ◌≢◌, ◌<◌, ◌≤◌, ℕ, List, [], ◌∷◌, ◌++◌, length}
 use Rattle.std.specs.Prelude.{codes, decimal}
 use Rattle.std.specs.List.{flat_map}
 use Rattle.dg_lex.specs.Bytes.{Bytes, line_end}
-use Rattle.dg_early.specs.declared.document.Doc.{Doc as FirstDoc}
-use Rattle.dg_early.specs.Reading as first_forms
-use Rattle.dg_early.specs.Report.{report}
-use Rattle.dg_early.specs.Rules.{violations, diagnostics as first_diagnostics}
 use Rattle.dg_decl.specs.declared.document.Doc.{Doc}
 use Rattle.dg_decl.specs.Reading as language
 use Rattle.dg_decl.specs.declared.violation.Violation.{Violation}
@@ -14,6 +10,7 @@ use Rattle.dg_decl.specs.Canonical.{canonical_text}
 use Rattle.dg_decl.specs.Diagnostics.{diagnostics, IsAccepted}
 use Rattle.dg_diag.specs.Lines.{line_of}
 use Rattle.dg_plan.specs.PlanLines.{plan_lines}
+use Rattle.dg_eval.specs.Report.{report}
 use Rattle.dg_top.specs.declared.status.Status.{Status}
 use Rattle.dg_top.specs.declared.status.Status.TheVariants.{Ran, Refused, BadWords, BadLine}
 use Rattle.dg_top.specs.declared.status.Status.TheVariants.{TooLong}
@@ -39,23 +36,7 @@ accepted_text = codes "accepted" ++ line_end ∷ []
 abbrev pub lines_of : List Violation → Bytes
 lines_of broken = flat_map line_of broken
 
--- ---- a document of the first forms, which answer an accepted document today
-
--- it breaks rules, and this text is the lines of its violations
-pub record IsBroken (bytes text : Bytes) : Type 0 where
-  pub doc : FirstDoc
-  pub reads : first_forms.Reads bytes doc
-  pub broken : violations doc.items ≢ []
-  pub is_text : text ≡ first_diagnostics doc.items
-
--- it breaks none, and this text is its report
-pub record IsReported (bytes text : Bytes) : Type 0 where
-  pub doc : FirstDoc
-  pub reads : first_forms.Reads bytes doc
-  pub good : violations doc.items ≡ []
-  pub is_text : text ≡ report doc.items
-
--- ---- a document of the whole language
+-- ---- what a document comes to
 
 -- this text is its canonical text
 pub record IsPrinted (bytes text : Bytes) : Type 0 where
@@ -69,12 +50,6 @@ pub record IsDiagnosed (bytes text : Bytes) : Type 0 where
   pub reads : language.Reads bytes doc
   pub broken : diagnostics doc ≢ []
   pub is_text : text ≡ lines_of (diagnostics doc)
-
--- it breaks none
-pub record IsAcceptedDocument (bytes : Bytes) : Type 0 where
-  pub doc : Doc
-  pub reads : language.Reads bytes doc
-  pub accepted : IsAccepted doc
 
 -- it breaks none, and this text says so
 pub record IsApproved (bytes text : Bytes) : Type 0 where
@@ -90,29 +65,29 @@ pub record IsPlanned (bytes text : Bytes) : Type 0 where
   pub accepted : IsAccepted doc
   pub is_text : text ≡ plan_lines doc
 
--- ---- what is read for a command, and what it gives
+-- it breaks none, and this text is its report
+pub record IsReported (bytes text : Bytes) : Type 0 where
+  pub doc : Doc
+  pub reads : language.Reads bytes doc
+  pub accepted : IsAccepted doc
+  pub is_text : text ≡ report doc
 
--- A run reads and judges a document as a check does. A document that is accepted is answered by the
--- first forms, until the whole language runs: they may find a line bad that the language reads.
+-- ---- what is read for a command, and what it gives
 
 -- line n of a document is the first bad one
 abbrev pub HasFirstBad : Command → Bytes → ℕ → Type 0
-HasFirstBad Run bytes n = language.FirstBad bytes n
-    ⊎ (IsAcceptedDocument bytes × first_forms.FirstBad bytes n)
-HasFirstBad Print bytes n = language.FirstBad bytes n
-HasFirstBad Check bytes n = language.FirstBad bytes n
-HasFirstBad Plan bytes n = language.FirstBad bytes n
+HasFirstBad command bytes n = language.FirstBad bytes n
 
 -- a document is read, and is refused with this text
 abbrev pub Refuses : Command → Bytes → Bytes → Type 0
-Refuses Run bytes text = IsDiagnosed bytes text ⊎ (IsAcceptedDocument bytes × IsBroken bytes text)
+Refuses Run bytes text = IsDiagnosed bytes text
 Refuses Print bytes text = ⊥
 Refuses Check bytes text = IsDiagnosed bytes text
 Refuses Plan bytes text = IsDiagnosed bytes text
 
 -- a document is read, and gives this text
 abbrev pub Gives : Command → Bytes → Bytes → Type 0
-Gives Run bytes text = IsAcceptedDocument bytes × IsReported bytes text
+Gives Run bytes text = IsReported bytes text
 Gives Print bytes text = IsPrinted bytes text
 Gives Check bytes text = IsApproved bytes text
 Gives Plan bytes text = IsPlanned bytes text

@@ -1,4 +1,4 @@
-//! The answer of a check, to a document of the whole language.
+//! The answer of a check to a document.
 
 ghost use Rattle.std.specs.Prelude.{◌≡◌, ◌≤◌, length, IfOk};
 ghost use Rattle.dg_decl.specs.Bounds.{IsBounded};

@@ -1,50 +1,66 @@
 //! A run of a program: its words, then its source to the end, then its sink.
 
 ghost use Rattle.std.specs.Prelude.{◌≡◌, ◌≢◌, ◌⊎◌, ◌↔◌, ◌≤◌, ◌+◌, [], map, string_bytes};
-ghost use Rattle.std.specs.Prelude.{length, IfOk, IfErr};
+ghost use Rattle.std.specs.Prelude.{length, option_map, IfOk, IfErr, IfSome};
 ghost use Rattle.std.specs.Io.KnownBytes.{Appends, IsAtEnd};
 ghost use Rattle.dg_io.specs.Causes.{Rose};
-ghost use Rattle.dg_top.specs.Answers.{Answers};
+ghost use Rattle.dg_top.specs.Answers.{IsRead};
 ghost use Rattle.dg_top.specs.Commands.{HasNoWords};
+ghost use Rattle.dg_top.specs.Ends.{Ends, IsAnswerTo};
 ghost use Rattle.dg_top.specs.Output.{document_limit, IsAnswer};
 ghost use Rattle.dg_top.specs.Runs.{Writes, TakesAtMost, IsComplete};
 ghost use Rattle.dg_top.specs.Runs.{BadLineExactly, RefusedExactly, TooLongExactly};
 
-use crate::answer::{Answer, too_long};
+use crate::answer::too_long;
 use crate::checking::answer_check;
 use crate::command::{Command, Program, command_of};
 use crate::input::{InputFault, read_all};
-use crate::output::write_all;
+use crate::output::write_answer;
 use crate::planning::answer_plan;
 use crate::printing::answer_print;
-use crate::running::answer_run;
+use crate::running::run_bytes;
 use crate::status::Status;
 use dg_io::{Sink, Source};
-use dg_types::NoMemory;
 use std::alloc::Global;
 
-/// The answer to a document of these bytes.
-fn answer_to(alloc: Global, command: Command, bytes: &[u8]) -> Result<Answer, NoMemory>
+/// Answers a document of these bytes.
+fn answer_bytes<K: Sink>(alloc: Global, command: Command, bytes: &[u8], sink: &mut K) -> Status
     requires { length bytes.now ≤ document_limit }
-    ensures exact { IfOk result (λ a. IsAnswer command bytes.now a.status a.text.items) }
+    ensures exact { Ends (IsAnswer command bytes.now) (K.written sink.old) (K.written sink.new)
+        (K.faults sink.old) (K.faults sink.new) result }
+    ensures faults { K.faults sink.old ≤ K.faults sink.new }
 {
     match command {
-        Command::Run => answer_run(alloc, bytes),
-        Command::Print => answer_print(alloc, bytes),
-        Command::Check => answer_check(alloc, bytes),
-        Command::Plan => answer_plan(alloc, bytes),
+        Command::Run => run_bytes(alloc, bytes, sink),
+        Command::Print => write_answer(answer_print(alloc, bytes), sink),
+        Command::Check => write_answer(answer_check(alloc, bytes), sink),
+        Command::Plan => write_answer(answer_plan(alloc, bytes), sink),
     }
 }
 
-/// The answer to what a source gives. An `Err` is the status of a run that writes nothing:
-/// ReadFault or NoMemory.
-fn answer_source<S: Source>(
+/// Answers what was read: the bytes of a document, or more than it may have.
+fn answer_read<K: Sink>(
     alloc: Global,
     command: Command,
-    source: &mut S,
-) -> Result<Answer, Status>
-    ensures exact { IfOk result (λ a.
-        Answers command (S.left source.old) (S.left source.new) a.status a.text.items) }
+    read: Option<Vec<u8>>,
+    sink: &mut K,
+) -> Status
+    requires { IfSome read (λ bytes. length bytes.items ≤ document_limit) }
+    ensures exact { Ends (IsAnswerTo command (option_map (λ bytes. bytes.items) read))
+        (K.written sink.old) (K.written sink.new) (K.faults sink.old) (K.faults sink.new) result }
+    ensures faults { K.faults sink.old ≤ K.faults sink.new }
+{
+    match read {
+        Some(bytes) => answer_bytes(alloc, command, bytes.as_slice(), sink),
+        None => write_answer(too_long(alloc), sink),
+    }
+}
+
+/// What a source gives: None where it has more bytes than a document may have. An `Err` is the
+/// status of a run that writes nothing: ReadFault or NoMemory.
+fn read_source<S: Source>(alloc: Global, source: &mut S) -> Result<Option<Vec<u8>>, Status>
+    ensures exact { IfOk result (λ read. IsRead (S.left source.old) (S.left source.new)
+        (option_map (λ bytes. bytes.items) read)) }
     ensures kept { IfOk result (λ _. S.faults source.new ≡ S.faults source.old) }
     ensures cause { IfErr result (λ s.
         ((s ≡ Status.ReadFault) × Rose (S.faults source.old) (S.faults source.new))
@@ -54,15 +70,11 @@ fn answer_source<S: Source>(
         s ≢ Status.ReadFault → S.faults source.new ≡ S.faults source.old) }
     ensures bound { TakesAtMost (document_limit + 1) (S.left source.old) (S.left source.new) }
 {
-    let answered = match read_all(alloc, source) {
-        Ok(bytes) => answer_to(alloc, command, bytes.as_slice()),
-        Err(InputFault::TooLong) => too_long(alloc),
-        Err(InputFault::Failed) => return Err(Status::ReadFault),
-        Err(InputFault::NoMemory) => return Err(Status::NoMemory),
-    };
-    match answered {
-        Ok(answer) => Ok(answer),
-        Err(NoMemory) => Err(Status::NoMemory),
+    match read_all(alloc, source) {
+        Ok(bytes) => Ok(Some(bytes)),
+        Err(InputFault::TooLong) => Ok(None),
+        Err(InputFault::Failed) => Err(Status::ReadFault),
+        Err(InputFault::NoMemory) => Err(Status::NoMemory),
     }
 }
 
@@ -105,11 +117,8 @@ pub fn perform<S: Source, K: Sink>(
     let Some(command) = command_of(program, words) else {
         return Status::BadWords;
     };
-    match answer_source(alloc, command, source) {
+    match read_source(alloc, source) {
         Err(status) => status,
-        Ok(answer) => match write_all(sink, answer.text.as_slice()) {
-            Ok(()) => answer.status,
-            Err(_) => Status::WriteFault,
-        },
+        Ok(read) => answer_read(alloc, command, read, sink),
     }
 }

@@ -1,4 +1,4 @@
-//! The answer of a print, to a document of the whole language.
+//! The answer of a print to a document.
 
 ghost use Rattle.std.specs.Prelude.{◌≤◌, length, IfOk};
 ghost use Rattle.dg_top.specs.Output.{document_limit, IsAnswer};

@@ -14,12 +14,13 @@ use crate::status::Status;
 use dg_io::{Gate, Sink, Source};
 use std::alloc::Global;
 
-/// Reads a document from the source, and writes its diagnostics or the replies to its asks to the
-/// sink. The whole language reads and judges the document; one that is accepted is answered by the
-/// first forms, which may find a line bad. The words are those of the command line without the
-/// program's name: there are none. It reads and writes in the order of the statuses: words, then
-/// the source to its end, then the sink. The gates, at least 64, are told nothing, since one thread
-/// does all work.
+/// Reads a document from the source, and writes its diagnostics or else its report to the sink: a
+/// line for the reply to each ask, in order, and the number of cells that they use. The words are
+/// those of the command line without the program's name: there are none. It reads and writes in the
+/// order of the statuses: words, then the source to its end, then the sink. The lines of at most
+/// 256 replies are made before they are written, so that memory grows with the document and with
+/// what its cells keep, and not with the report. The gates, at least 64, are told nothing, since
+/// one thread does all work.
 pub fn run_top<S: Source, K: Sink, G: Gate + Send>(
     alloc: Global,
     words: &[String],

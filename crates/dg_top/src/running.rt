@@ -1,79 +1,79 @@
-//! The answer of a run: the whole language judges a document, and the first forms answer it.
+//! A run over the bytes of a document: its diagnostics, or else its report.
 
-ghost use Rattle.std.specs.Prelude.{◌≡◌, ◌≢◌, ◌≤◌, true, false, length, IfOk};
-ghost use Rattle.dg_top.specs.Answers.{AnswersItems, AnswersFirstForms};
-ghost use Rattle.dg_top.specs.Output.{document_limit, IsAnswer};
+ghost use Rattle.std.specs.Prelude.{◌≡◌, ◌≤◌, length, IfOk};
+ghost use Rattle.dg_decl.specs.Bounds.{IsBounded};
+ghost use Rattle.dg_decl.specs.Diagnostics.{IsAccepted};
+ghost use Rattle.dg_eval.specs.Report.{report};
+ghost use Rattle.dg_top.specs.Answers.{AnswersDoc};
+ghost use Rattle.dg_top.specs.Ends.{Ends};
+ghost use Rattle.dg_top.specs.Output.{document_limit, lines_of, IsAnswer};
 
 use crate::answer::{Answer, bad_line};
-use crate::checking::answer_check;
+use crate::checking::lines_of;
 use crate::command::Command;
+use crate::diagnosing::{diagnostics, is_found};
+use crate::output::write_answer;
+use crate::reporting::write_report;
 use crate::status::Status;
-use dg_early::{Declarations, Item, ReadDocFault, lines, read_doc, report, violations};
+use crate::stream_fault::StreamFault;
+use dg_decl::{Doc, Violation};
+use dg_io::Sink;
+use dg_reader::{ReadDocFault, read_doc};
 use dg_types::NoMemory;
 use std::alloc::Global;
 
-/// The answer to a document with these items: its diagnostics, or else its
-/// report.
-#[tactic(auto, unfolding(dg_early::specs::Rules::diagnostics))]
-fn answer_items(alloc: Global, items: &[Item]) -> Result<Answer, dg_early::NoMemory>
-    ensures exact { IfOk result (λ a. AnswersItems items.now a.status a.text.items) }
+/// The answer to a document that breaks these rules.
+fn refusal(alloc: Global, broken: &[Violation]) -> Result<Answer, NoMemory>
+    ensures exact { IfOk result (λ a. (a.status ≡ Status.Refused)
+        × (a.text.items ≡ lines_of broken.now)) }
 {
-    let declarations = Declarations::of(alloc, items)?;
-    let broken = violations(alloc, &declarations)?;
-    if broken.is_empty() {
-        Ok(Answer {
-            status: Status::Ran,
-            text: report(alloc, &declarations)?,
-        })
-    } else {
-        Ok(Answer {
-            status: Status::Refused,
-            text: lines(alloc, broken.as_slice())?,
-        })
+    Ok(Answer {
+        status: Status::Refused,
+        text: lines_of(alloc, broken)?,
+    })
+}
+
+/// Writes the report of a document that breaks no rule.
+fn run_accepted<K: Sink>(alloc: Global, d: &Doc, sink: &mut K) -> Status
+    requires bounded { IsBounded d.now }
+    requires accepted { IsAccepted d.now }
+    ensures exact { Ends (AnswersDoc d.now (report d.now)) (K.written sink.old) (K.written sink.new)
+        (K.faults sink.old) (K.faults sink.new) result }
+    ensures faults { K.faults sink.old ≤ K.faults sink.new }
+{
+    match write_report(alloc, d, sink) {
+        Ok(()) => Status::Ran,
+        Err(StreamFault::Failed) => Status::WriteFault,
+        Err(StreamFault::NoMemory) => Status::NoMemory,
     }
 }
 
-/// The answer of the first forms to a document of these bytes.
-fn answer_first_forms(alloc: Global, bytes: &[u8]) -> Result<Answer, NoMemory>
+/// Writes the diagnostics of a document, or else its report.
+fn run_doc<K: Sink>(alloc: Global, d: &Doc, sink: &mut K) -> Status
+    requires bounded { IsBounded d.now }
+    ensures exact { Ends (AnswersDoc d.now (report d.now)) (K.written sink.old) (K.written sink.new)
+        (K.faults sink.old) (K.faults sink.new) result }
+    ensures faults { K.faults sink.old ≤ K.faults sink.new }
+{
+    let Ok(broken) = diagnostics(alloc, d) else {
+        return Status::NoMemory;
+    };
+    if is_found(broken.as_slice()) {
+        return write_answer(refusal(alloc, broken.as_slice()), sink);
+    }
+    run_accepted(alloc, d, sink)
+}
+
+/// Answers a document of these bytes, as a run does.
+pub fn run_bytes<K: Sink>(alloc: Global, bytes: &[u8], sink: &mut K) -> Status
     requires { length bytes.now ≤ document_limit }
-    ensures exact { IfOk result (λ a. AnswersFirstForms bytes.now a.status a.text.items) }
+    ensures exact { Ends (IsAnswer Command.Run bytes.now) (K.written sink.old) (K.written sink.new)
+        (K.faults sink.old) (K.faults sink.new) result }
+    ensures faults { K.faults sink.old ≤ K.faults sink.new }
 {
     match read_doc(alloc, bytes) {
-        Ok(doc) => match answer_items(alloc, doc.items.as_slice()) {
-            Ok(answer) => Ok(answer),
-            Err(dg_early::NoMemory) => Err(NoMemory),
-        },
-        Err(ReadDocFault::BadLine { line }) => bad_line(alloc, line),
-        Err(ReadDocFault::NoMemory) => Err(NoMemory),
-    }
-}
-
-fn is_ran(status: Status) -> bool
-    ensures ran { result ≡ true → status ≡ Status.Ran }
-    ensures other { result ≡ false → status ≢ Status.Ran }
-{
-    match status {
-        Status::Ran => true,
-        Status::Refused
-        | Status::BadWords
-        | Status::BadLine
-        | Status::ReadFault
-        | Status::WriteFault
-        | Status::NoMemory
-        | Status::TooLong => false,
-    }
-}
-
-/// The answer of a run to a document of these bytes: that of a check, where the document isn't
-/// accepted, or else that of the first forms.
-pub fn answer_run(alloc: Global, bytes: &[u8]) -> Result<Answer, NoMemory>
-    requires { length bytes.now ≤ document_limit }
-    ensures exact { IfOk result (λ a. IsAnswer Command.Run bytes.now a.status a.text.items) }
-{
-    let checked = answer_check(alloc, bytes)?;
-    if is_ran(checked.status) {
-        answer_first_forms(alloc, bytes)
-    } else {
-        Ok(checked)
+        Ok(doc) => run_doc(alloc, &doc, sink),
+        Err(ReadDocFault::BadLine { line }) => write_answer(bad_line(alloc, line), sink),
+        Err(ReadDocFault::NoMemory) => Status::NoMemory,
     }
 }

@@ -16,6 +16,50 @@ open a : App
 ask a.db
 ";
 
+/// A scoped class and one without a scope, each asked for twice.
+const SHARED: &[u8] = b"\
+@Inject @Singleton class Log()
+@Inject class Page(log: Log)
+@Singleton component App {
+  entry log : Log
+  entry page : Page
+}
+open a : App
+ask a.log
+ask a.log
+ask a.page
+ask a.page
+";
+
+/// A producer that fails, and one that makes a text of its failure.
+const FAILING: &[u8] = b"\
+module M {
+  produces head() : Text = fail(\"no head\")
+  produces safe(h: Produced<Text>) : @Named(\"s\") Text = if ok(h) then value(h) \
+  else cat(\"none: \", failure(h))
+}
+component App modules M {
+  entry head : Text
+  entry safe : @Named(\"s\") Text
+}
+open a : App
+ask a.head
+ask a.safe
+";
+
+/// A map with one entry, which is asked for that and for another one.
+const KEYED: &[u8] = b"\
+module M {
+  @IntoMap @IntKey(1) provides first() : Text = \"first\"
+}
+component App modules M {
+  entry all : Map<Int,Text>
+}
+open a : App
+ask a.all[1]
+ask a.all[2]
+";
+
 /// How the outside of a run behaves.
 #[derive(Clone, Copy)]
 struct Outside<'a> {
@@ -184,15 +228,44 @@ x
 }
 
 #[test]
-fn the_whole_language_judges_and_the_first_forms_answer(rt: HostRuntime) -> Result<(), Fail> {
+fn what_breaks_a_rule_is_refused(rt: HostRuntime) -> Result<(), Fail> {
     let text = b"module M {\n  provides t() : Text = 3\n}\n";
     let (status, sink) = run(rt.alloc(), &[], text, calm(4096))?;
     assert_eq!(rt; status, Status::Refused);
     assert_eq!(rt; sink.bytes(), b"[Own/TypeMismatch] line 2\n".as_slice());
+    Ok(())
+}
 
-    let (status, sink) = run(rt.alloc(), &[], b"scope S\n", calm(4096))?;
-    assert_eq!(rt; status, Status::BadLine);
-    assert_eq!(rt; sink.bytes(), b"bad line 1\n".as_slice());
+#[test]
+fn a_scoped_object_is_shared_and_another_is_not(rt: HostRuntime) -> Result<(), Fail> {
+    let (status, sink) = run(rt.alloc(), &[], SHARED, calm(4096))?;
+    assert_eq!(rt; status, Status::Ran);
+    assert_eq!(rt;
+        sink.bytes(),
+        b"1 Log#1{}\n2 Log#1\n3 Page#2{log=Log#1}\n4 Page#3{log=Log#1}\ncells 1\n".as_slice()
+    );
+    Ok(())
+}
+
+#[test]
+fn a_failure_is_the_reply_and_its_cell_counts(rt: HostRuntime) -> Result<(), Fail> {
+    let (status, sink) = run(rt.alloc(), &[], FAILING, calm(4096))?;
+    assert_eq!(rt; status, Status::Ran);
+    assert_eq!(rt;
+        sink.bytes(),
+        b"1 failed M.head \"no head\"\n2 \"none: no head\"\ncells 2\n".as_slice()
+    );
+    Ok(())
+}
+
+#[test]
+fn a_key_without_an_entry_is_absent(rt: HostRuntime) -> Result<(), Fail> {
+    let (status, sink) = run(rt.alloc(), &[], KEYED, calm(4096))?;
+    assert_eq!(rt; status, Status::Ran);
+    assert_eq!(rt;
+        sink.bytes(),
+        b"1 \"first\"\n2 absent\ncells 0\n".as_slice()
+    );
     Ok(())
 }
 
