@@ -2,11 +2,18 @@ use Rattle.std.proofs.Common.{◌≡◌, ◌+◌, ℕ, suc, List, sym, ap, subst
 use Rattle.dg_decl.specs.declared.document.Doc.{Doc}
 use Rattle.dg_value.specs.declared.place.Place.{Place}
 use Rattle.dg_eval.specs.Report.{reply_line}
+use Rattle.dg_report.specs.Held.{HoldsReply}
 use Rattle.dg_tree.specs.Stores.{Stored}
+use Rattle.dg_value.specs.Contents.{content_in}
 use Rattle.dg_top.specs.Progress.{AreAsked}
 use Rattle.dg_top.proofs.LineLemmas.{line_more, seen_more}
 use Rattle.dg_top.proofs.UsedLemmas.{settled_asked}
 use Rattle.dg_top.proofs.asking.ask_line.Goals as goal
+
+pub reply_text-requires-clause-held : goal.reply_text-requires-clause-held
+reply_text-requires-clause-held g c =
+    subst (λ (d : Doc). HoldsReply d (content_in c.reply_to.new.tree.cells) c.in_ok-reply.reply)
+    (sym c.requires.names) c.in_ok-reply.ensures.held
 
 pub returns-clause-exact : goal.returns-clause-exact
 returns-clause-exact g c =
