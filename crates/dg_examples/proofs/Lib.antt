@@ -1,0 +1,13 @@
+pub mod Words
+pub mod Acceptance
+pub mod BodyFolds
+pub mod ValueFolds
+pub mod Bodies
+pub mod Printing
+pub mod Uses
+pub mod ScopedClass
+pub mod ParentAndChild
+pub mod Deferred
+pub mod ExposedEntry
+pub mod TwoFailures
+pub mod Awaits
