@@ -3,7 +3,6 @@
 
 mod calls;
 mod counters;
-mod element_key;
 mod expressions;
 mod made;
 mod operations;

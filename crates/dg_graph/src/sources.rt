@@ -3,6 +3,7 @@
 ghost use Rattle.std.specs.Prelude.{◌≡◌, ◌++◌, ◌∷◌, [], if◌then◌else◌, OnOk};
 ghost use Rattle.dg_graph.specs.Kept as spec;
 
+use crate::marks::Place;
 use dg_decl::{Node, NodeKind};
 use dg_resolve::Lookups;
 use dg_types::NoMemory;
@@ -15,7 +16,7 @@ pub struct Sources<'s> {
     pub alloc: Global,
     pub lookups: &'s Lookups<'s>,
     pub found: &'s IndexSet<Node>,
-    pub taken: &'s [Vec<bool>],
+    pub taken: &'s IndexSet<Place>,
 }
 
 /// Whether a node is found.

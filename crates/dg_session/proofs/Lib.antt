@@ -3,4 +3,3 @@ pub mod ArgumentLemmas
 pub mod EntryLemmas
 pub mod NumberLemmas
 pub mod NumberedForms
-pub mod EntryTableLemmas

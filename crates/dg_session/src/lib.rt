@@ -4,7 +4,6 @@
 mod arguments;
 mod asks;
 mod entries;
-mod entry_table;
 mod fault;
 mod insts;
 mod numbered;
