@@ -7,6 +7,7 @@ pub mod PartRuns
 pub mod ParamLemmas
 pub mod PartForms
 pub mod CountLemmas
+pub mod ElementKeyLemmas
 pub mod ElementLemmas
 pub mod RunLists
 pub mod SetLemmas

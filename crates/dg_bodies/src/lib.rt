@@ -3,6 +3,7 @@
 
 mod calls;
 mod counters;
+mod element_key;
 mod expressions;
 mod made;
 mod operations;

@@ -11,13 +11,16 @@ ghost use Rattle.dg_eval.specs.Runs.{in_order};
 ghost use Rattle.dg_requests.specs.Scopes.{IsClosed};
 ghost use Rattle.dg_requests.specs.Results.{CanRun, Ran, Gave};
 ghost use Rattle.dg_requests.specs.Depths.{IsBelow};
+ghost use Rattle.dg_bodies.specs.ElementKeys.{kept_by};
 ghost use Rattle.dg_bodies.specs.Elements as spec;
 ghost use Rattle.dg_bodies.specs.Elements.{listed};
 
+use crate::element_key::{ElementKey, is_first};
 use crate::parts::{elements, entry_value};
 use dg_requests::{Below, Cells, InScope, Stop, look, mistyped};
 use dg_types::{MapKeyVal, NoMemory};
-use dg_value::{Shared, Value, same_element};
+use dg_value::{Shared, Value};
+use indexmap::IndexSet;
 use sqlite_items::Items;
 use std::alloc::Global;
 
@@ -75,34 +78,36 @@ fn as_looked_at(alloc: Global, values: &[Value]) -> Result<Vec<Value>, NoMemory>
     Ok(copies)
 }
 
-/// Whether a content is equal to one of these.
-fn is_among(content: &Value, contents: &[Value]) -> bool
-    ensures exact { result ≡ spec.is_among content.now contents.now }
-{
-    for other in contents {
-        if same_element(content, other) {
-            return true;
-        }
-    }
-    false
-}
-
-/// Of some values with the content behind each, those whose content is equal to none of a value
-/// that was kept before.
-fn distinct(alloc: Global, values: &[Value], contents: &[Value]) -> Result<Items<Value>, NoMemory>
-    ensures exact { IfOk result (λ kept. kept ≡ spec.kept_of [] [] values.now contents.now) }
+/// Of some values with the content behind each, those whose content is equal to none that was noted
+/// before it.
+fn not_noted(
+    alloc: Global,
+    values: &[Value],
+    contents: &[Value],
+    noted: &mut IndexSet<ElementKey>,
+) -> Result<Items<Value>, NoMemory>
+    ensures exact { IfOk result (λ kept.
+        kept ≡ kept_by [] noted.old.keys values.now contents.now) }
 {
     let mut kept = Items::new(alloc);
-    let mut behind = Vec::new(alloc);
     for (i, value) in values.iter().enumerate() {
         let Some(content) = contents.get(i) else {
             return Ok(kept);
         };
-        if !is_among(content, behind.as_slice()) {
+        if is_first(alloc, content, noted)? {
             kept.push(value.copy()?)?;
-            behind.push(content.copy()?)?;
         }
     }
+    Ok(kept)
+}
+
+/// Of some values with the content behind each, those whose content is equal to none of a value
+/// that was kept before. To look at one takes the time of hashing its content, as a rule.
+fn distinct(alloc: Global, values: &[Value], contents: &[Value]) -> Result<Items<Value>, NoMemory>
+    ensures exact { IfOk result (λ kept. kept ≡ spec.kept_of [] [] values.now contents.now) }
+{
+    let mut noted = IndexSet::new(alloc);
+    let kept = not_noted(alloc, values, contents, &mut noted)?;
     Ok(kept)
 }
 

@@ -16,3 +16,8 @@ pub mod UsedEval
 pub mod UsedNodes
 pub mod UsedAsks
 pub mod UsedLaw
+pub mod CellLists
+pub mod CellTables
+pub mod ReachLemmas
+pub mod EntrySlots
+pub mod JobLemmas

@@ -12,9 +12,6 @@ use Rattle.dg_graph.specs.Growth.{Grows}
 use Rattle.std.specs.Cmp.{first_so, second_so}
 use Rattle.std.proofs.lemmas.Bool.{eqb-true}
 use Rattle.std.proofs.lemmas.Grind.{flat_map-append}
-use Rattle.dg_graph.specs.contracts.marks.PlacePartialEq.TheImpl as of_places
-use Rattle.dg_graph.specs.contracts.marks.PlaceEq.TheImpl.Laws as place_laws
-use Rattle.dg_graph.specs.declared.marks.Place.{Place}
 use Rattle.dg_graph.specs.Kept.{same}
 use Rattle.dg_graph.proofs.DerivedEquality.{same_decides}
 
@@ -84,19 +81,6 @@ pub grows_by_one : (old new : List Node) (n : Node) → new ≡ insert_key of_no
     → Grows (n ∷ []) old new
 unfolding same
 grows_by_one old new n e = grows_by of_nodes.ghosts.eq (λ x y. (same_decides x y).0) old new n e
-
-place_same : (p q : Place) → of_places.ghosts.eq p q ≡ true → p ≡ q
-place_same p q h =
-    let c = eqb-true p.class q.class (first_so _ _ h) in
-    let i = eqb-true p.index q.index (second_so _ _ h) in
-    λ k. record { class = c k; index = i k }
-
-pub place_is_itself : (p : Place) → of_places.ghosts.eq p p ≡ true
-place_is_itself p = place_laws.laws-law.refl p
-
-pub grows_by_place : (old new : List Place) (p : Place) → new ≡ insert_key of_places.ghosts.eq old p
-    → Grows (p ∷ []) old new
-grows_by_place old new p e = grows_by of_places.ghosts.eq place_same old new p e
 
 -- ---- once there is one more
 

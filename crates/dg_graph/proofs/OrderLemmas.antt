@@ -41,8 +41,7 @@ use Rattle.dg_resolve.proofs.ListLemmas.{filter_as, at_range}
 use Rattle.dg_resolve.proofs.StatementLemmas.{Rises, at_least, statements_rise}
 use Rattle.dg_graph.specs.Kept.{same, is_among, kept, place_of, stands_at, is_header, is_line, argument, exposed_at, exposed_on, has_group, group, group_at, groups_of_option, own_kinds, bound_kinds, exposed_kinds, kinds_on}
 use Rattle.dg_graph.specs.Reached.{AreReached}
-use Rattle.dg_graph.specs.Vacant.{is_taken, AreTaken, kinds_where}
-use Rattle.dg_graph.specs.declared.marks.Place.{Place}
+use Rattle.dg_graph.specs.Vacant.{Rows, is_taken, AreTaken, kinds_where}
 use Rattle.dg_graph.proofs.DerivedEquality.{same_decides}
 use Rattle.dg_graph.proofs.KeptLemmas.{kept_none, kept_both}
 use Rattle.dg_graph.proofs.MarkLemmas.{taken_there}
@@ -440,7 +439,7 @@ all_stand doc c b s k h =
           ]
     ]
 
-module _ (doc : Doc) (found : List Node) (taken : List Place) (reached : AreReached doc found)
+module _ (doc : Doc) (found : List Node) (taken : Rows) (reached : AreReached doc found)
     (are : AreTaken doc found taken) where
   passed_over : (c : ℕ) (b : Option Bind) (s : Statement) → is_taken taken c s.index ≡ false
       → kept found c (kinds_on doc c None [] b s) ≡ []

@@ -31,8 +31,7 @@ use Rattle.dg_resolve.proofs.StatementLemmas.{Rises, statements_rise}
 use Rattle.dg_resolve.proofs.TableLemmas.{one_test}
 use Rattle.dg_graph.specs.Kept.{same, is_among, kept, is_header, is_line, argument, exposed_at, exposed_on, bound_kinds, default_where, KnowsClass}
 use Rattle.dg_graph.specs.Reached.{AreReached}
-use Rattle.dg_graph.specs.Vacant.{AreTaken, kinds_where}
-use Rattle.dg_graph.specs.declared.marks.Place.{Place}
+use Rattle.dg_graph.specs.Vacant.{Rows, AreTaken, kinds_where}
 use Rattle.dg_graph.proofs.DerivedEquality.{same_decides}
 use Rattle.dg_graph.proofs.KeptLemmas.{adds_none, goes_on}
 use Rattle.dg_graph.proofs.OrderLemmas.{own_argument_is, own_exposed_is, own_groups_are, listed, looked_at, found_reached}
@@ -83,7 +82,7 @@ one_counted header passed s = by (is_line header s)
     by true = refl
     by false = refl
 
-pub class_goes_on : (doc : Doc) (found : List Node) (taken : List Place) (c : ℕ) (header : Option ℕ)
+pub class_goes_on : (doc : Doc) (found : List Node) (taken : Rows) (c : ℕ) (header : Option ℕ)
     (binds : List Bind) (exposed : List (List Exposed)) (before : List Node)
     (i passed next passed_now next_now : ℕ) (s : Statement) (old new : List Node)
     → AreReached doc found → AreTaken doc found taken → c < class_count doc

@@ -11,7 +11,7 @@ ghost use Rattle.dg_graph.specs.Vacant as vacant;
 ghost use Rattle.dg_resolve.specs.Explicit as explicit;
 
 use crate::groups::keep_groups_of;
-use crate::marks::{Place, is_taken, places};
+use crate::marks::{is_taken, places};
 use crate::sources::{Sources, keep};
 use dg_decl::{Bind, BindRef, Bound, Class, Exposed, Item, Node, NodeKind};
 use dg_deps::Dependencies;
@@ -187,10 +187,10 @@ fn keep_all(
 }
 
 /// Whether a found node of a class can stand on a statement.
-fn has_nodes(taken: &IndexSet<Place>, class: u32, seen: Seen<'_>, index: u32) -> bool
+fn has_nodes(taken: &[Vec<bool>], class: u32, seen: Seen<'_>, index: u32) -> bool
     ensures exact { result ≡ (is_some seen.entry.argument
         || (not (spec.is_empty seen.entry.exposed.now)
-        || vacant.is_taken taken.now.keys class index)) }
+        || vacant.is_taken taken.now class index)) }
 {
     seen.argument.is_some() || (!seen.exposed.is_empty() || is_taken(taken, class, index))
 }
@@ -206,7 +206,7 @@ fn keep_statement(
     requires class { class < components.class_count sources.lookups.now }
     ensures exact { OnOk result (nodes.new.items ≡ nodes.old.items
         ++ spec.kept sources.entry.found.now.keys class (vacant.kinds_where
-        sources.entry.lookups.now sources.entry.taken.now.keys class seen.entry.argument
+        sources.entry.lookups.now sources.entry.taken.now class seen.entry.argument
         seen.entry.exposed.now (option_copied seen.entry.bind) statement.now)) }
 {
     if has_nodes(sources.taken, class, seen, statement.index) {
@@ -251,7 +251,7 @@ fn keep_statements(
     requires lookups { sources.lookups.now ≡ dependencies.now }
     requires found { AreReached dependencies.now sources.found.now.keys }
     requires taken { vacant.AreTaken dependencies.now sources.found.now.keys
-        sources.taken.now.keys }
+        sources.taken.now }
     ensures exact { OnOk result (nodes.new.items ≡ nodes.old.items
         ++ spec.kept sources.entry.found.now.keys class
         (flat_map (graph.kinds_at dependencies.now class) (document.statements dependencies.now))) }
@@ -323,7 +323,7 @@ fn keep_class(
     requires lookups { sources.lookups.now ≡ dependencies.now }
     requires found { AreReached dependencies.now sources.found.now.keys }
     requires taken { vacant.AreTaken dependencies.now sources.found.now.keys
-        sources.taken.now.keys }
+        sources.taken.now }
     ensures exact { OnOk result (nodes.new.items ≡ nodes.old.items
         ++ spec.kept sources.entry.found.now.keys class (graph.kinds_of dependencies.now class)) }
 {
@@ -344,12 +344,13 @@ pub fn ordered(
 {
     let names = Names::of(alloc, dependencies.doc())?;
     let lookups = dependencies.lookups();
-    let taken = places(alloc, lookups, found)?;
+    let statements = names.statements().len();
+    let taken = places(alloc, lookups, found, names.class_count(), statements)?;
     let sources = Sources {
         alloc,
         lookups,
         found,
-        taken: &taken,
+        taken: taken.as_slice(),
     };
     let mut nodes = Vec::new(alloc);
     for class in 0..names.class_count() {

@@ -3,7 +3,6 @@
 ghost use Rattle.std.specs.Prelude.{◌≡◌, ◌++◌, ◌∷◌, [], if◌then◌else◌, OnOk};
 ghost use Rattle.dg_graph.specs.Kept as spec;
 
-use crate::marks::Place;
 use dg_decl::{Node, NodeKind};
 use dg_resolve::Lookups;
 use dg_types::NoMemory;
@@ -16,7 +15,7 @@ pub struct Sources<'s> {
     pub alloc: Global,
     pub lookups: &'s Lookups<'s>,
     pub found: &'s IndexSet<Node>,
-    pub taken: &'s IndexSet<Place>,
+    pub taken: &'s [Vec<bool>],
 }
 
 /// Whether a node is found.

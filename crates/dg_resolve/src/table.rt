@@ -40,10 +40,13 @@ impl KeyTable {
         }
     }
 
-    /// What stands under a key.
+    /// What stands under a key. No key is hashed where there are no bindings at all.
     pub fn of_key(&self, key: &Key) -> &[Owned]
         ensures exact { result.now ≡ spec.of_key key.now self.now }
     {
+        if self.groups.is_empty() {
+            return &[];
+        }
         self.groups
             .get(key)
             .map(|group| group.as_slice())

@@ -3,3 +3,4 @@ pub mod ArgumentLemmas
 pub mod EntryLemmas
 pub mod NumberLemmas
 pub mod NumberedForms
+pub mod EntryTableLemmas

@@ -6,7 +6,7 @@ ghost use Rattle.dg_decl.specs.Names as declared;
 ghost use Rattle.dg_decl.specs.Stages.Session as stage;
 ghost use Rattle.dg_slots.specs.Sessions as sessions;
 
-use crate::entries::{asked_entry, entry_place, type_of_entry};
+use crate::entries::{asked_entry, type_of_entry};
 use crate::numbered::{Numbers, as_number};
 use crate::paths::Spot;
 use crate::scene::Scene;
@@ -102,7 +102,7 @@ fn place_of(scene: &Scene<'_>, s: &Statement<'_>, inst: &[u8], entry: &[u8]) -> 
         (stage.class_of_instance scene.now s.now inst.now) }
 {
     match class_of_instance(scene.names(), s, inst) {
-        Some(class) => entry_place(scene.names(), scene.entries(class), entry),
+        Some(class) => scene.entry_place(class, entry),
         None => None,
     }
 }

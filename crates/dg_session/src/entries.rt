@@ -1,7 +1,8 @@
 //! The entries of classes by name.
 
 ghost use Rattle.std.specs.Prelude.{◌≡◌, option_and_then, option_map, option_copied};
-ghost use Rattle.std.specs.List.{find, position};
+ghost use Rattle.std.specs.List.{find};
+ghost use Rattle.dg_decl.specs.Components.{entries_of};
 ghost use Rattle.dg_decl.specs.Names as declared;
 ghost use Rattle.dg_decl.specs.Stages.Session as stage;
 ghost use Rattle.dg_slots.specs.Sessions as sessions;
@@ -19,45 +20,22 @@ fn item_at<'a>(names: &Names<'a>, index: u32) -> Option<&'a Item>
     names.doc().items.as_slice().get(index as usize)
 }
 
-/// Whether the entry of an index has this name.
-fn is_entry_called(names: &Names<'_>, name: &[u8], entry: u32) -> bool
-    ensures exact { result ≡ sessions.is_entry_called names.now name.now entry }
+/// The index of the entry of this name of a class.
+fn entry_called(scene: &Scene<'_>, class: u32, name: &[u8]) -> Option<u32>
+    ensures exact { result
+        ≡ find (sessions.is_entry_called scene.now name.now) (entries_of scene.now class) }
 {
-    match item_at(names, entry) {
-        Some(item) => match item.member_name() {
-            Some(member) => member.as_slice() == name,
-            None => false,
-        },
-        None => false,
+    match scene.entry_place(class, name) {
+        Some(place) => scene.entries(class).get(place).copied(),
+        None => None,
     }
 }
 
-/// The index of the entry of this name among some entries. It looks through them.
-fn entry_called(names: &Names<'_>, entries: &[u32], name: &[u8]) -> Option<u32>
-    ensures exact { result ≡ find (sessions.is_entry_called names.now name.now) entries.now }
-{
-    for entry in entries {
-        if is_entry_called(names, name, *entry) {
-            return Some(*entry);
-        }
-    }
-    None
-}
-
-/// The place of the entry of this name among some entries. It looks through them.
-pub(crate) fn entry_place(names: &Names<'_>, entries: &[u32], name: &[u8]) -> Option<usize>
-    ensures exact { result ≡ position (sessions.is_entry_called names.now name.now) entries.now }
-{
-    entries
-        .iter()
-        .position(|entry| is_entry_called(names, name, *entry))
-}
-
-/// The entry of this name of a class. It looks through the entries of the class.
+/// The entry of this name of a class.
 fn entry_named<'a>(scene: &Scene<'a>, class: u32, name: &[u8]) -> Option<&'a Item>
     ensures exact { option_copied result ≡ stage.entry_named scene.now class name.now }
 {
-    match entry_called(scene.names(), scene.entries(class), name) {
+    match entry_called(scene, class, name) {
         Some(entry) => item_at(scene.names(), entry),
         None => None,
     }

@@ -4,6 +4,7 @@
 mod arguments;
 mod asks;
 mod entries;
+mod entry_table;
 mod fault;
 mod insts;
 mod numbered;

@@ -4,7 +4,9 @@ ghost use Rattle.std.specs.Prelude.{◌≡◌, IfOk, option_copied, slice_get, o
 ghost use Rattle.dg_decl.specs.Bounds.{IsBounded};
 ghost use Rattle.dg_decl.specs.Components as components;
 ghost use Rattle.dg_decl.specs.Components.{component_classes};
+ghost use Rattle.dg_slots.specs.Sessions as sessions;
 
+use crate::entry_table::{EntryTable, place_at, tables_of};
 use dg_decl::{Bound, Class, CompTree, Doc};
 use dg_names::Names;
 use dg_types::NoMemory;
@@ -12,19 +14,20 @@ use sqlite_items::at;
 use std::alloc::Global;
 use std::marker::Model;
 
-/// The component classes of a document, with its names. Contracts see the document.
+/// The component classes of a document, with its names and tables of their entries. Contracts see
+/// the document.
 #[derive(Drop)]
 pub(crate) struct Scene<'a> {
     names: Names<'a>,
     classes: &'a [Class],
+    tables: Vec<EntryTable>,
 }
 
 impl<'a> Model for Scene<'a> {
-    ghost use Rattle.std.specs.Prelude.{◌≡◌};
     ghost use Rattle.std.specs.Coded.{codes};
     ghost use Rattle.dg_decl.specs.contracts.document.Doc as code;
     ghost use Rattle.dg_decl.specs.declared.document.Doc.{Doc};
-    ghost use Rattle.dg_decl.specs.Components.{component_classes};
+    ghost use Rattle.dg_session.specs.EntryTables.{IsScene};
 
     ghost Value = { Doc };
 
@@ -32,7 +35,7 @@ impl<'a> Model for Scene<'a> {
 
     ghost view = { λ s. s.names };
 
-    ghost invariant = { λ s. s.classes.now ≡ component_classes s.names };
+    ghost invariant = { λ s. IsScene s.names s.classes.now s.tables.items };
 }
 
 impl<'a> Scene<'a> {
@@ -44,7 +47,12 @@ impl<'a> Scene<'a> {
     {
         let names = Names::of(alloc, d)?;
         let classes = t.classes.as_slice();
-        Ok(Scene { names, classes })
+        let tables = tables_of(alloc, &names, classes)?;
+        Ok(Scene {
+            names,
+            classes,
+            tables,
+        })
     }
 
     pub(crate) fn names(&self) -> &Names<'a>
@@ -99,5 +107,14 @@ impl<'a> Scene<'a> {
             Some(class) => class.entries.as_slice(),
             None => &[],
         }
+    }
+
+    /// The place of the entry of a name among the entries of a class. It takes the time of hashing
+    /// the name, as a rule.
+    #[tactic(auto, using(crate::proofs::EntryTableLemmas::entry_placed))]
+    pub(crate) fn entry_place(&self, class: u32, name: &[u8]) -> Option<usize>
+        ensures exact { result ≡ sessions.entry_place self.now class name.now }
+    {
+        place_at(self.tables.as_slice(), class, name)
     }
 }

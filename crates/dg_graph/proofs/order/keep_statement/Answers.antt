@@ -10,7 +10,7 @@ pub returns-then-has_nodes : goal.returns-then-has_nodes
 returns-then-has_nodes c =
     let seen = c.args.seen in
     let class = c.args.class in
-    let taken = c.args.sources.taken.now.keys in
+    let taken = c.args.sources.taken.now in
     let kinds = kinds_on c.args.sources.lookups.now class seen.argument seen.exposed.now
     (option_copied seen.bind) c.args.statement.now in
     let at : c.statement.inside.index ≡ c.args.statement.now.index = ap
@@ -30,7 +30,7 @@ pub returns-else-has_nodes : goal.returns-else-has_nodes
 returns-else-has_nodes c =
     let seen = c.args.seen in
     let class = c.args.class in
-    let taken = c.args.sources.taken.now.keys in
+    let taken = c.args.sources.taken.now in
     let found = c.args.sources.found.now.keys in
     let old = c.args.nodes.now.items in
     let kinds = kinds_on c.args.sources.lookups.now class seen.argument seen.exposed.now

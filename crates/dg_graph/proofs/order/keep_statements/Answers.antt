@@ -23,7 +23,7 @@ pub loop-statement-preserved : goal.loop-statement-preserved
 loop-statement-preserved c =
     let doc = c.args.dependencies.now in
     let found = c.args.sources.found.now.keys in
-    let taken = c.args.sources.taken.now.keys in
+    let taken = c.args.sources.taken.now in
     let class = c.args.class in
     let header = c.header_of-header.result in
     let exposed = c.exposed.result.now in

@@ -7,7 +7,7 @@ use Rattle.dg_decl.specs.Graph.{kinds_of}
 use Rattle.dg_resolve.proofs.ListLemmas.{up_more}
 use Rattle.dg_graph.specs.Kept.{kept}
 use Rattle.dg_graph.specs.Reached.{AreReached}
-use Rattle.dg_graph.specs.Vacant.{AreTaken}
+use Rattle.dg_graph.specs.Vacant.{Rows, AreTaken}
 use Rattle.dg_graph.proofs.PassLemmas.{all_nodes}
 use Rattle.dg_graph.proofs.order.ordered.Goals as goal
 
@@ -29,8 +29,10 @@ keep_class-requires c =
       names = same;
       lookups = c.lookups-lookups.ensures.exact;
       found = c.requires.found;
-      taken = subst (λ (d : Doc). AreTaken d c.args.found.now.keys c.in_ok-taken.taken.keys)
-          c.lookups-lookups.ensures.exact c.in_ok-taken.ensures.exact;
+      taken = subst (λ (d : Doc). AreTaken d c.args.found.now.keys c.as_slice.result.now)
+          c.lookups-lookups.ensures.exact
+          (subst (λ (r : Rows). AreTaken c.lookups-lookups.result.now c.args.found.now.keys r)
+          (sym c.as_slice.ensures) c.in_ok-taken.ensures.exact);
     }
 
 pub loop-class-preserved : goal.loop-class-preserved

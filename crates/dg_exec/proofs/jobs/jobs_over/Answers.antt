@@ -1,0 +1,16 @@
+use Rattle.std.proofs.Common.{Vec, ℕ, map}
+use Rattle.std.specs.Global.{Global}
+use Rattle.dg_exec.proofs.JobLemmas.{jobs_whole}
+use Rattle.dg_exec.proofs.jobs.jobs_over.Goals as goal
+
+pub returns : goal.returns
+returns c = record {
+  exact = λ doc of s.
+      jobs_whole doc c.args.plan.now c.args.world.now c.args.session.now of s
+      c.in_ok-cells.cells.items c.in_ok-table.table.keys c.in_ok-cells.ensures.exact
+      c.in_ok-table.ensures.exact
+      (map (λ (row : Vec ℕ Global). row.items) c.in_ok-inputs.inputs.items)
+      (map (λ (row : Vec ℕ Global). row.items) c.add_needed_by_cells.new.rows.items)
+      (λ is. c.in_ok-inputs.ensures.exact doc of is)
+      (λ is all. c.in_ok-add_needed_by_cells.ensures.exact doc of is all);
+}
