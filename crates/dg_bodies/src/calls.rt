@@ -63,8 +63,11 @@ fn of_one<S: InScope, C: Cells, B: Below<C>>(
     requires below { IsBelow C.scope C.asked B.can_eval B.eval_gives below.now S.scope depth }
     requires deep { depth ≤ 128 }
     requires same { C.scope cells.old ≡ S.scope }
-    requires can { CanRun S.scope (and_then (and_then (or_mistyped (only_of values.now)) (meaning.look (meaning.eval S.scope.doc depth) depth)) (applied_to f site.now.slot)) }
-    ensures ran { Ran S.scope (and_then (and_then (or_mistyped (only_of values.now)) (meaning.look (meaning.eval S.scope.doc depth) depth)) (applied_to f site.now.slot)) (C.asked cells.old) (C.asked cells.new) result }
+    requires can { CanRun S.scope (and_then (and_then (or_mistyped (only_of values.now))
+        (meaning.look (meaning.eval S.scope.doc depth) depth)) (applied_to f site.now.slot)) }
+    ensures ran { Ran S.scope (and_then (and_then (or_mistyped (only_of values.now)) (meaning.look
+        (meaning.eval S.scope.doc depth) depth)) (applied_to f site.now.slot)) (C.asked cells.old)
+        (C.asked cells.new) result }
     ensures same { C.scope cells.new ≡ S.scope }
 {
     let value = only_of(alloc, values)?;
@@ -85,8 +88,10 @@ fn cat_of<S: InScope, C: Cells, B: Below<C>>(
     requires below { IsBelow C.scope C.asked B.can_eval B.eval_gives below.now S.scope depth }
     requires deep { depth ≤ 128 }
     requires same { C.scope cells.old ≡ S.scope }
-    requires can { CanRun S.scope (and_then (bodies.look_all (seen S.scope depth site.now) values.now) (operations_spec.cat_in site.now.slot)) }
-    ensures ran { Ran S.scope (and_then (bodies.look_all (seen S.scope depth site.now) values.now) (operations_spec.cat_in site.now.slot)) (C.asked cells.old) (C.asked cells.new) result }
+    requires can { CanRun S.scope (and_then (bodies.look_all (seen S.scope depth site.now)
+        values.now) (operations_spec.cat_in site.now.slot)) }
+    ensures ran { Ran S.scope (and_then (bodies.look_all (seen S.scope depth site.now) values.now)
+        (operations_spec.cat_in site.now.slot)) (C.asked cells.old) (C.asked cells.new) result }
     ensures same { C.scope cells.new ≡ S.scope }
 {
     let contents = look_all::<S, C, B>(alloc, values, below, depth, cells)?;
@@ -108,7 +113,8 @@ pub(crate) fn called_with<S: InScope, C: Cells, B: Below<C>>(
     requires deep { depth ≤ 128 }
     requires same { C.scope cells.old ≡ S.scope }
     requires can { CanRun S.scope (bodies.called_with f (seen S.scope depth site.now) values.now) }
-    ensures ran { Ran S.scope (bodies.called_with f (seen S.scope depth site.now) values.now) (C.asked cells.old) (C.asked cells.new) result }
+    ensures ran { Ran S.scope (bodies.called_with f (seen S.scope depth site.now) values.now)
+        (C.asked cells.old) (C.asked cells.new) result }
     ensures same { C.scope cells.new ≡ S.scope }
 {
     match f {
@@ -134,8 +140,10 @@ fn got_of<S: InScope, C: Cells, B: Below<C>>(
     requires below { IsBelow C.scope C.asked B.can_eval B.eval_gives below.now S.scope depth }
     requires deep { depth ≤ 128 }
     requires same { C.scope cells.old ≡ S.scope }
-    requires can { CanRun S.scope (run_at (bodies.by_param by_name.Get index) (seen S.scope depth site.now) at.old) }
-    ensures ran { Ran S.scope (run_at (bodies.by_param by_name.Get index) (seen S.scope depth site.now) at.old) (C.asked cells.old) (C.asked cells.new) result }
+    requires can { CanRun S.scope (run_at (bodies.by_param by_name.Get index) (seen S.scope depth
+        site.now) at.old) }
+    ensures ran { Ran S.scope (run_at (bodies.by_param by_name.Get index) (seen S.scope depth
+        site.now) at.old) (C.asked cells.old) (C.asked cells.new) result }
     ensures after { OnOk result (at.new ≡ after (bodies.by_param by_name.Get index) at.old) }
     ensures same { C.scope cells.new ≡ S.scope }
 {
@@ -158,8 +166,11 @@ fn values_of<S: InScope, C: Cells, B: Below<C>>(
     requires below { IsBelow C.scope C.asked B.can_eval B.eval_gives below.now S.scope depth }
     requires deep { depth ≤ 128 }
     requires same { C.scope cells.old ≡ S.scope }
-    requires can { CanRun S.scope (and_then (meaning.param_in site.now.params index) (bodies.values_in (meaning.look (meaning.eval S.scope.doc depth) depth))) }
-    ensures ran { Ran S.scope (and_then (meaning.param_in site.now.params index) (bodies.values_in (meaning.look (meaning.eval S.scope.doc depth) depth))) (C.asked cells.old) (C.asked cells.new) result }
+    requires can { CanRun S.scope (and_then (meaning.param_in site.now.params index)
+        (bodies.values_in (meaning.look (meaning.eval S.scope.doc depth) depth))) }
+    ensures ran { Ran S.scope (and_then (meaning.param_in site.now.params index) (bodies.values_in
+        (meaning.look (meaning.eval S.scope.doc depth) depth))) (C.asked cells.old) (C.asked
+        cells.new) result }
     ensures same { C.scope cells.new ≡ S.scope }
 {
     let value = param(alloc, site.params, index)?;
@@ -181,8 +192,10 @@ pub(crate) fn by_param<S: InScope, C: Cells, B: Below<C>>(
     requires below { IsBelow C.scope C.asked B.can_eval B.eval_gives below.now S.scope depth }
     requires deep { depth ≤ 128 }
     requires same { C.scope cells.old ≡ S.scope }
-    requires can { CanRun S.scope (run_at (bodies.by_param f index) (seen S.scope depth site.now) at.old) }
-    ensures ran { Ran S.scope (run_at (bodies.by_param f index) (seen S.scope depth site.now) at.old) (C.asked cells.old) (C.asked cells.new) result }
+    requires can { CanRun S.scope (run_at (bodies.by_param f index) (seen S.scope depth site.now)
+        at.old) }
+    ensures ran { Ran S.scope (run_at (bodies.by_param f index) (seen S.scope depth site.now)
+        at.old) (C.asked cells.old) (C.asked cells.new) result }
     ensures after { OnOk result (at.new ≡ after (bodies.by_param f index) at.old) }
     ensures same { C.scope cells.new ≡ S.scope }
 {

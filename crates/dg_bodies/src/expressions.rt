@@ -44,7 +44,8 @@ pub(crate) fn expression<S: InScope, C: Cells, B: Below<C>>(
     requires deep { depth ≤ 128 }
     requires same { C.scope cells.old ≡ S.scope }
     requires can { CanRun S.scope (run_at (expr_part e.now) (seen S.scope depth site.now) at.old) }
-    ensures ran { Ran S.scope (run_at (expr_part e.now) (seen S.scope depth site.now) at.old) (C.asked cells.old) (C.asked cells.new) result }
+    ensures ran { Ran S.scope (run_at (expr_part e.now) (seen S.scope depth site.now) at.old)
+        (C.asked cells.old) (C.asked cells.new) result }
     ensures after { OnOk result (at.new ≡ after (expr_part e.now) at.old) }
     ensures same { C.scope cells.new ≡ S.scope }
 {
@@ -108,8 +109,10 @@ pub(crate) fn condition<S: InScope, C: Cells, B: Below<C>>(
     requires below { IsBelow C.scope C.asked B.can_eval B.eval_gives below.now S.scope depth }
     requires deep { depth ≤ 128 }
     requires same { C.scope cells.old ≡ S.scope }
-    requires can { CanRun S.scope (run_at (cond_part cond.now) (seen S.scope depth site.now) at.old) }
-    ensures ran { Ran S.scope (run_at (cond_part cond.now) (seen S.scope depth site.now) at.old) (C.asked cells.old) (C.asked cells.new) result }
+    requires can { CanRun S.scope (run_at (cond_part cond.now) (seen S.scope depth site.now)
+        at.old) }
+    ensures ran { Ran S.scope (run_at (cond_part cond.now) (seen S.scope depth site.now) at.old)
+        (C.asked cells.old) (C.asked cells.new) result }
     ensures after { OnOk result (at.new ≡ after (cond_part cond.now) at.old) }
     ensures same { C.scope cells.new ≡ S.scope }
 {
@@ -154,8 +157,10 @@ fn looked<S: InScope, C: Cells, B: Below<C>>(
     requires below { IsBelow C.scope C.asked B.can_eval B.eval_gives below.now S.scope depth }
     requires deep { depth ≤ 128 }
     requires same { C.scope cells.old ≡ S.scope }
-    requires can { CanRun S.scope (run_at (looked_part (expr_part e.now)) (seen S.scope depth site.now) at.old) }
-    ensures ran { Ran S.scope (run_at (looked_part (expr_part e.now)) (seen S.scope depth site.now) at.old) (C.asked cells.old) (C.asked cells.new) result }
+    requires can { CanRun S.scope (run_at (looked_part (expr_part e.now)) (seen S.scope depth
+        site.now) at.old) }
+    ensures ran { Ran S.scope (run_at (looked_part (expr_part e.now)) (seen S.scope depth site.now)
+        at.old) (C.asked cells.old) (C.asked cells.new) result }
     ensures after { OnOk result (at.new ≡ after (looked_part (expr_part e.now)) at.old) }
     ensures same { C.scope cells.new ≡ S.scope }
 {
@@ -179,9 +184,12 @@ fn both<S: InScope, C: Cells, B: Below<C>>(
     requires below { IsBelow C.scope C.asked B.can_eval B.eval_gives below.now S.scope depth }
     requires deep { depth ≤ 128 }
     requires same { C.scope cells.old ≡ S.scope }
-    requires can { CanRun S.scope (run_at (pair_part (expr_part a.now) (expr_part b.now)) (seen S.scope depth site.now) at.old) }
-    ensures ran { Ran S.scope (run_at (pair_part (expr_part a.now) (expr_part b.now)) (seen S.scope depth site.now) at.old) (C.asked cells.old) (C.asked cells.new) result }
-    ensures after { OnOk result (at.new ≡ after (pair_part (expr_part a.now) (expr_part b.now)) at.old) }
+    requires can { CanRun S.scope (run_at (pair_part (expr_part a.now) (expr_part b.now)) (seen
+        S.scope depth site.now) at.old) }
+    ensures ran { Ran S.scope (run_at (pair_part (expr_part a.now) (expr_part b.now)) (seen S.scope
+        depth site.now) at.old) (C.asked cells.old) (C.asked cells.new) result }
+    ensures after { OnOk result (at.new ≡ after (pair_part (expr_part a.now) (expr_part b.now))
+        at.old) }
     ensures same { C.scope cells.new ≡ S.scope }
 {
     let v = looked::<S, C, B>(alloc, site, a, at, below, depth, cells)?;
@@ -205,8 +213,10 @@ fn sum<S: InScope, C: Cells, B: Below<C>>(
     requires below { IsBelow C.scope C.asked B.can_eval B.eval_gives below.now S.scope depth }
     requires deep { depth ≤ 128 }
     requires same { C.scope cells.old ≡ S.scope }
-    requires can { CanRun S.scope (run_at (expr_part (nexpr.Sum a.now b.now)) (seen S.scope depth site.now) at.old) }
-    ensures ran { Ran S.scope (run_at (expr_part (nexpr.Sum a.now b.now)) (seen S.scope depth site.now) at.old) (C.asked cells.old) (C.asked cells.new) result }
+    requires can { CanRun S.scope (run_at (expr_part (nexpr.Sum a.now b.now)) (seen S.scope depth
+        site.now) at.old) }
+    ensures ran { Ran S.scope (run_at (expr_part (nexpr.Sum a.now b.now)) (seen S.scope depth
+        site.now) at.old) (C.asked cells.old) (C.asked cells.new) result }
     ensures after { OnOk result (at.new ≡ after (expr_part (nexpr.Sum a.now b.now)) at.old) }
     ensures same { C.scope cells.new ≡ S.scope }
 {
@@ -230,8 +240,10 @@ fn equal<S: InScope, C: Cells, B: Below<C>>(
     requires below { IsBelow C.scope C.asked B.can_eval B.eval_gives below.now S.scope depth }
     requires deep { depth ≤ 128 }
     requires same { C.scope cells.old ≡ S.scope }
-    requires can { CanRun S.scope (run_at (cond_part (ncond.Equal a.now b.now)) (seen S.scope depth site.now) at.old) }
-    ensures ran { Ran S.scope (run_at (cond_part (ncond.Equal a.now b.now)) (seen S.scope depth site.now) at.old) (C.asked cells.old) (C.asked cells.new) result }
+    requires can { CanRun S.scope (run_at (cond_part (ncond.Equal a.now b.now)) (seen S.scope depth
+        site.now) at.old) }
+    ensures ran { Ran S.scope (run_at (cond_part (ncond.Equal a.now b.now)) (seen S.scope depth
+        site.now) at.old) (C.asked cells.old) (C.asked cells.new) result }
     ensures after { OnOk result (at.new ≡ after (cond_part (ncond.Equal a.now b.now)) at.old) }
     ensures same { C.scope cells.new ≡ S.scope }
 {
@@ -255,8 +267,10 @@ fn less<S: InScope, C: Cells, B: Below<C>>(
     requires below { IsBelow C.scope C.asked B.can_eval B.eval_gives below.now S.scope depth }
     requires deep { depth ≤ 128 }
     requires same { C.scope cells.old ≡ S.scope }
-    requires can { CanRun S.scope (run_at (cond_part (ncond.Less a.now b.now)) (seen S.scope depth site.now) at.old) }
-    ensures ran { Ran S.scope (run_at (cond_part (ncond.Less a.now b.now)) (seen S.scope depth site.now) at.old) (C.asked cells.old) (C.asked cells.new) result }
+    requires can { CanRun S.scope (run_at (cond_part (ncond.Less a.now b.now)) (seen S.scope depth
+        site.now) at.old) }
+    ensures ran { Ran S.scope (run_at (cond_part (ncond.Less a.now b.now)) (seen S.scope depth
+        site.now) at.old) (C.asked cells.old) (C.asked cells.new) result }
     ensures after { OnOk result (at.new ≡ after (cond_part (ncond.Less a.now b.now)) at.old) }
     ensures same { C.scope cells.new ≡ S.scope }
 {
@@ -280,8 +294,10 @@ fn field_of<S: InScope, C: Cells, B: Below<C>>(
     requires below { IsBelow C.scope C.asked B.can_eval B.eval_gives below.now S.scope depth }
     requires deep { depth ≤ 128 }
     requires same { C.scope cells.old ≡ S.scope }
-    requires can { CanRun S.scope (run_at (expr_part (nexpr.Field of.now field)) (seen S.scope depth site.now) at.old) }
-    ensures ran { Ran S.scope (run_at (expr_part (nexpr.Field of.now field)) (seen S.scope depth site.now) at.old) (C.asked cells.old) (C.asked cells.new) result }
+    requires can { CanRun S.scope (run_at (expr_part (nexpr.Field of.now field)) (seen S.scope
+        depth site.now) at.old) }
+    ensures ran { Ran S.scope (run_at (expr_part (nexpr.Field of.now field)) (seen S.scope depth
+        site.now) at.old) (C.asked cells.old) (C.asked cells.new) result }
     ensures after { OnOk result (at.new ≡ after (expr_part (nexpr.Field of.now field)) at.old) }
     ensures same { C.scope cells.new ≡ S.scope }
 {
@@ -304,8 +320,10 @@ fn arguments<S: InScope, C: Cells, B: Below<C>>(
     requires below { IsBelow C.scope C.asked B.can_eval B.eval_gives below.now S.scope depth }
     requires deep { depth ≤ 128 }
     requires same { C.scope cells.old ≡ S.scope }
-    requires can { CanRun S.scope (run_at (row (map expr_part args.now)) (seen S.scope depth site.now) at.old) }
-    ensures ran { Ran S.scope (run_at (row (map expr_part args.now)) (seen S.scope depth site.now) at.old) (C.asked cells.old) (C.asked cells.new) result }
+    requires can { CanRun S.scope (run_at (row (map expr_part args.now)) (seen S.scope depth
+        site.now) at.old) }
+    ensures ran { Ran S.scope (run_at (row (map expr_part args.now)) (seen S.scope depth site.now)
+        at.old) (C.asked cells.old) (C.asked cells.new) result }
     ensures after { OnOk result (at.new ≡ after (row (map expr_part args.now)) at.old) }
     ensures same { C.scope cells.new ≡ S.scope }
 {
@@ -332,8 +350,10 @@ fn object<S: InScope, C: Cells, B: Below<C>>(
     requires below { IsBelow C.scope C.asked B.can_eval B.eval_gives below.now S.scope depth }
     requires deep { depth ≤ 128 }
     requires same { C.scope cells.old ≡ S.scope }
-    requires can { CanRun S.scope (run_at (expr_part (nexpr.New class args.now)) (seen S.scope depth site.now) at.old) }
-    ensures ran { Ran S.scope (run_at (expr_part (nexpr.New class args.now)) (seen S.scope depth site.now) at.old) (C.asked cells.old) (C.asked cells.new) result }
+    requires can { CanRun S.scope (run_at (expr_part (nexpr.New class args.now)) (seen S.scope
+        depth site.now) at.old) }
+    ensures ran { Ran S.scope (run_at (expr_part (nexpr.New class args.now)) (seen S.scope depth
+        site.now) at.old) (C.asked cells.old) (C.asked cells.new) result }
     ensures after { OnOk result (at.new ≡ after (expr_part (nexpr.New class args.now)) at.old) }
     ensures same { C.scope cells.new ≡ S.scope }
 {
@@ -359,9 +379,12 @@ fn chosen<S: InScope, C: Cells, B: Below<C>>(
     requires below { IsBelow C.scope C.asked B.can_eval B.eval_gives below.now S.scope depth }
     requires deep { depth ≤ 128 }
     requires same { C.scope cells.old ≡ S.scope }
-    requires can { CanRun S.scope (run_at (expr_part (nexpr.If cond.now yes.now no.now)) (seen S.scope depth site.now) at.old) }
-    ensures ran { Ran S.scope (run_at (expr_part (nexpr.If cond.now yes.now no.now)) (seen S.scope depth site.now) at.old) (C.asked cells.old) (C.asked cells.new) result }
-    ensures after { OnOk result (at.new ≡ after (expr_part (nexpr.If cond.now yes.now no.now)) at.old) }
+    requires can { CanRun S.scope (run_at (expr_part (nexpr.If cond.now yes.now no.now)) (seen
+        S.scope depth site.now) at.old) }
+    ensures ran { Ran S.scope (run_at (expr_part (nexpr.If cond.now yes.now no.now)) (seen S.scope
+        depth site.now) at.old) (C.asked cells.old) (C.asked cells.new) result }
+    ensures after { OnOk result (at.new ≡ after (expr_part (nexpr.If cond.now yes.now no.now))
+        at.old) }
     ensures same { C.scope cells.new ≡ S.scope }
 {
     if condition::<S, C, B>(alloc, site, cond, at, below, depth, cells)? {
@@ -389,8 +412,10 @@ fn called<S: InScope, C: Cells, B: Below<C>>(
     requires below { IsBelow C.scope C.asked B.can_eval B.eval_gives below.now S.scope depth }
     requires deep { depth ≤ 128 }
     requires same { C.scope cells.old ≡ S.scope }
-    requires can { CanRun S.scope (run_at (expr_part (nexpr.Call f args.now)) (seen S.scope depth site.now) at.old) }
-    ensures ran { Ran S.scope (run_at (expr_part (nexpr.Call f args.now)) (seen S.scope depth site.now) at.old) (C.asked cells.old) (C.asked cells.new) result }
+    requires can { CanRun S.scope (run_at (expr_part (nexpr.Call f args.now)) (seen S.scope depth
+        site.now) at.old) }
+    ensures ran { Ran S.scope (run_at (expr_part (nexpr.Call f args.now)) (seen S.scope depth
+        site.now) at.old) (C.asked cells.old) (C.asked cells.new) result }
     ensures after { OnOk result (at.new ≡ after (expr_part (nexpr.Call f args.now)) at.old) }
     ensures same { C.scope cells.new ≡ S.scope }
 {
@@ -414,8 +439,10 @@ fn or_else<S: InScope, C: Cells, B: Below<C>>(
     requires below { IsBelow C.scope C.asked B.can_eval B.eval_gives below.now S.scope depth }
     requires deep { depth ≤ 128 }
     requires same { C.scope cells.old ≡ S.scope }
-    requires can { CanRun S.scope (run_at (expr_part (nexpr.OrElse param other.now)) (seen S.scope depth site.now) at.old) }
-    ensures ran { Ran S.scope (run_at (expr_part (nexpr.OrElse param other.now)) (seen S.scope depth site.now) at.old) (C.asked cells.old) (C.asked cells.new) result }
+    requires can { CanRun S.scope (run_at (expr_part (nexpr.OrElse param other.now)) (seen S.scope
+        depth site.now) at.old) }
+    ensures ran { Ran S.scope (run_at (expr_part (nexpr.OrElse param other.now)) (seen S.scope
+        depth site.now) at.old) (C.asked cells.old) (C.asked cells.new) result }
     ensures after { OnOk result (at.new ≡ after (expr_part (nexpr.OrElse param other.now)) at.old) }
     ensures same { C.scope cells.new ≡ S.scope }
 {

@@ -36,8 +36,10 @@ pub(crate) fn look_all<S: InScope, C: Cells, B: Below<C>>(
     requires deep { depth ≤ 128 }
     requires closed { IsClosed S.scope }
     requires same { C.scope cells.old ≡ S.scope }
-    requires can { CanRun S.scope (in_order (map (meaning.look (meaning.eval S.scope.doc depth) depth) values.now)) }
-    ensures ran { Ran S.scope (in_order (map (meaning.look (meaning.eval S.scope.doc depth) depth) values.now)) (C.asked cells.old) (C.asked cells.new) (listed result) }
+    requires can { CanRun S.scope (in_order (map (meaning.look (meaning.eval S.scope.doc depth)
+        depth) values.now)) }
+    ensures ran { Ran S.scope (in_order (map (meaning.look (meaning.eval S.scope.doc depth) depth)
+        values.now)) (C.asked cells.old) (C.asked cells.new) (listed result) }
     ensures same { C.scope cells.new ≡ S.scope }
 {
     let mut contents = Vec::new(alloc);
@@ -147,8 +149,10 @@ pub fn set_of<S: InScope, C: Cells, B: Below<C>>(
     requires deep { depth ≤ 128 }
     requires closed { IsClosed S.scope }
     requires same { C.scope cells.old ≡ S.scope }
-    requires can { CanRun S.scope (bodies.set_of (meaning.look (meaning.eval S.scope.doc depth) depth) values.now) }
-    ensures ran { Ran S.scope (bodies.set_of (meaning.look (meaning.eval S.scope.doc depth) depth) values.now) (C.asked cells.old) (C.asked cells.new) result }
+    requires can { CanRun S.scope (bodies.set_of (meaning.look (meaning.eval S.scope.doc depth)
+        depth) values.now) }
+    ensures ran { Ran S.scope (bodies.set_of (meaning.look (meaning.eval S.scope.doc depth) depth)
+        values.now) (C.asked cells.old) (C.asked cells.new) result }
     ensures same { C.scope cells.new ≡ S.scope }
 {
     if values.len() < 2 {
@@ -224,8 +228,10 @@ pub(crate) fn values_in<S: InScope, C: Cells, B: Below<C>>(
     requires deep { depth ≤ 128 }
     requires closed { IsClosed S.scope }
     requires same { C.scope cells.old ≡ S.scope }
-    requires can { CanRun S.scope (bodies.values_in (meaning.look (meaning.eval S.scope.doc depth) depth) v.now) }
-    ensures ran { Ran S.scope (bodies.values_in (meaning.look (meaning.eval S.scope.doc depth) depth) v.now) (C.asked cells.old) (C.asked cells.new) result }
+    requires can { CanRun S.scope (bodies.values_in (meaning.look (meaning.eval S.scope.doc depth)
+        depth) v.now) }
+    ensures ran { Ran S.scope (bodies.values_in (meaning.look (meaning.eval S.scope.doc depth)
+        depth) v.now) (C.asked cells.old) (C.asked cells.new) result }
     ensures same { C.scope cells.new ≡ S.scope }
 {
     match elements(v) {

@@ -38,8 +38,10 @@ fn leaf<S: InScope, C: Cells, B: Below<C>>(
     requires below { IsBelow C.scope C.asked B.can_eval B.eval_gives below.now S.scope depth }
     requires deep { depth ≤ 128 }
     requires same { C.scope cells.old ≡ S.scope }
-    requires can { CanRun S.scope (run_at (tree_part (ntree.Leaf e.now)) (seen S.scope depth site.now) at.old) }
-    ensures ran { Ran S.scope (run_at (tree_part (ntree.Leaf e.now)) (seen S.scope depth site.now) at.old) (C.asked cells.old) (C.asked cells.new) (ends result) }
+    requires can { CanRun S.scope (run_at (tree_part (ntree.Leaf e.now)) (seen S.scope depth
+        site.now) at.old) }
+    ensures ran { Ran S.scope (run_at (tree_part (ntree.Leaf e.now)) (seen S.scope depth site.now)
+        at.old) (C.asked cells.old) (C.asked cells.new) (ends result) }
     ensures after { OnOk result (at.new ≡ after (tree_part (ntree.Leaf e.now)) at.old) }
     ensures same { C.scope cells.new ≡ S.scope }
 {
@@ -64,8 +66,10 @@ fn awaited_of<S: InScope, C: Cells, B: Below<C>>(
     requires below { IsBelow C.scope C.asked B.can_eval B.eval_gives below.now S.scope depth }
     requires deep { depth ≤ 128 }
     requires same { C.scope cells.old ≡ S.scope }
-    requires can { CanRun S.scope (run_at (tree_part (ntree.Await index)) (seen S.scope depth site.now) at.old) }
-    ensures ran { Ran S.scope (run_at (tree_part (ntree.Await index)) (seen S.scope depth site.now) at.old) (C.asked cells.old) (C.asked cells.new) (ends result) }
+    requires can { CanRun S.scope (run_at (tree_part (ntree.Await index)) (seen S.scope depth
+        site.now) at.old) }
+    ensures ran { Ran S.scope (run_at (tree_part (ntree.Await index)) (seen S.scope depth site.now)
+        at.old) (C.asked cells.old) (C.asked cells.new) (ends result) }
     ensures after { OnOk result (at.new ≡ after (tree_part (ntree.Await index)) at.old) }
     ensures same { C.scope cells.new ≡ S.scope }
 {
@@ -91,13 +95,17 @@ fn chosen<S: InScope, C: Cells, B: Below<C>>(
 ) -> Result<End, Stop>
     requires fit { IsFit S.scope site.now.plan (world_of S.scope.doc) }
     requires of_world { world.now ≡ world_of S.scope.doc }
-    requires awaits { AwaitsFit S.scope.doc (tree_part (ntree.If cond.now yes.now no.now)).called site.now.params }
+    requires awaits { AwaitsFit S.scope.doc (tree_part (ntree.If cond.now yes.now no.now)).called
+        site.now.params }
     requires below { IsBelow C.scope C.asked B.can_eval B.eval_gives below.now S.scope depth }
     requires deep { depth ≤ 128 }
     requires same { C.scope cells.old ≡ S.scope }
-    requires can { CanRun S.scope (run_at (tree_part (ntree.If cond.now yes.now no.now)) (seen S.scope depth site.now) at.old) }
-    ensures ran { Ran S.scope (run_at (tree_part (ntree.If cond.now yes.now no.now)) (seen S.scope depth site.now) at.old) (C.asked cells.old) (C.asked cells.new) (ends result) }
-    ensures after { OnOk result (at.new ≡ after (tree_part (ntree.If cond.now yes.now no.now)) at.old) }
+    requires can { CanRun S.scope (run_at (tree_part (ntree.If cond.now yes.now no.now)) (seen
+        S.scope depth site.now) at.old) }
+    ensures ran { Ran S.scope (run_at (tree_part (ntree.If cond.now yes.now no.now)) (seen S.scope
+        depth site.now) at.old) (C.asked cells.old) (C.asked cells.new) (ends result) }
+    ensures after { OnOk result (at.new ≡ after (tree_part (ntree.If cond.now yes.now no.now))
+        at.old) }
     ensures same { C.scope cells.new ≡ S.scope }
 {
     if condition::<S, C, B>(alloc, site, cond, at, below, depth, cells)? {
@@ -128,7 +136,8 @@ fn tree<S: InScope, C: Cells, B: Below<C>>(
     requires deep { depth ≤ 128 }
     requires same { C.scope cells.old ≡ S.scope }
     requires can { CanRun S.scope (run_at (tree_part t.now) (seen S.scope depth site.now) at.old) }
-    ensures ran { Ran S.scope (run_at (tree_part t.now) (seen S.scope depth site.now) at.old) (C.asked cells.old) (C.asked cells.new) (ends result) }
+    ensures ran { Ran S.scope (run_at (tree_part t.now) (seen S.scope depth site.now) at.old)
+        (C.asked cells.old) (C.asked cells.new) (ends result) }
     ensures after { OnOk result (at.new ≡ after (tree_part t.now) at.old) }
     ensures same { C.scope cells.new ≡ S.scope }
 {
@@ -163,8 +172,11 @@ pub fn tree_end<S: InScope, C: Cells, B: Below<C>>(
     requires below { IsBelow C.scope C.asked B.can_eval B.eval_gives below.now S.scope depth }
     requires deep { depth ≤ 128 }
     requires same { C.scope cells.old ≡ S.scope }
-    requires can { CanRun S.scope ((tree_part body.now).run (meaning.around S.scope.doc (meaning.eval S.scope.doc depth) depth slot place.now params.now) 0 0) }
-    ensures ran { Ran S.scope ((tree_part body.now).run (meaning.around S.scope.doc (meaning.eval S.scope.doc depth) depth slot place.now params.now) 0 0) (C.asked cells.old) (C.asked cells.new) (ends result) }
+    requires can { CanRun S.scope ((tree_part body.now).run (meaning.around S.scope.doc
+        (meaning.eval S.scope.doc depth) depth slot place.now params.now) 0 0) }
+    ensures ran { Ran S.scope ((tree_part body.now).run (meaning.around S.scope.doc (meaning.eval
+        S.scope.doc depth) depth slot place.now params.now) 0 0) (C.asked cells.old) (C.asked
+        cells.new) (ends result) }
     ensures same { C.scope cells.new ≡ S.scope }
 {
     let site = Site {

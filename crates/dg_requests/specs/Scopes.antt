@@ -1,5 +1,5 @@
 -- What may be asked of an object that keeps contents, and what it was asked for.
-use Rattle.std.specs.Prelude.{◌≡◌, ℕ, List, ◌++◌, Option, Some, None, Result, Ok, Err, Contains, IfOk, option_map}
+use Rattle.std.specs.Prelude.{◌≡◌, ℕ, List, [], ◌∷◌, ◌++◌, Option, Some, None, Result, Ok, Err, Contains, IfOk, option_map}
 use Rattle.dg_types.specs.declared.memory.NoMemory.{NoMemory}
 use Rattle.dg_decl.specs.declared.document.Doc.{Doc}
 use Rattle.dg_decl.specs.Diagnostics.{IsAccepted}
@@ -69,6 +69,14 @@ abbrev pub Asks : {A : Type 0} → Doc → List Asked → Option (List Asked) �
     → Result A NoMemory → Type 0
 Asks doc asks old new (Ok a) = Told old new (Exactly doc asks)
 Asks doc asks old new (Err e) = Told old new (AllUsed doc asks)
+
+-- What was asked for before is held: where it is asked for again, that is all that is asked for, and
+-- so it isn't made again.
+abbrev pub IsMadeOnce : Asked → Option (List Asked) → Option (List Asked) → Result Kept NoMemory
+    → Type 0
+IsMadeOnce x (Some old) new (Ok kept) = Contains old x → new ≡ Some (old ++ x ∷ [])
+IsMadeOnce x (Some old) new (Err e) = Unit {0}
+IsMadeOnce x None new result = Unit {0}
 
 -- A call answers the content of a cell or Lazy, having these to ask for; or memory lacks. It leaves
 -- the scope as it is.

@@ -32,7 +32,8 @@ pub struct Deeper<F> {
 impl<C, F: Fn(u32, u32, Place, &mut C) -> Result<Value, Stop>> Below<C> for Deeper<F> {
     ghost can_eval = { λ s i k q c. (p : MutBor C) → p.now ≡ c → F.pre s.run i k q p };
 
-    ghost eval_gives = { λ s i k q c r d. (p t : MutBor C) × (p.now ≡ c) × (t.now ≡ d) × F.post s.run i k q p r t };
+    ghost eval_gives = { λ s i k q c r d. (p t : MutBor C) × (p.now ≡ c) × (t.now ≡ d)
+        × F.post s.run i k q p r t };
 
     fn eval(&self, inst: u32, slot: u32, place: Place, cells: &mut C) -> Result<Value, Stop> {
         (self.run)(inst, slot, place, cells)

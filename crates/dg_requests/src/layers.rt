@@ -64,7 +64,8 @@ fn made_cell<S: InScope, C: Cells, B: Below<C>>(
     requires deep { depth ≤ 128 }
     requires same { C.scope cells.old ≡ S.scope }
     requires can { CanRun S.scope (meaning.content (meaning.eval S.scope.doc depth) inst slot) }
-    ensures exact { Answers (cell inst slot) (asked_by (C.scope cells.old).doc (cell inst slot)) (C.scope cells.old) (C.scope cells.new) (C.asked cells.old) (C.asked cells.new) result }
+    ensures exact { Answers (cell inst slot) (asked_by (C.scope cells.old).doc (cell inst slot))
+        (C.scope cells.old) (C.scope cells.new) (C.asked cells.old) (C.asked cells.new) result }
 {
     let place = Place::at_root(alloc, PlaceRoot::Cell { inst, slot });
     to_keep(below.eval(inst, slot, place, cells))
@@ -83,19 +84,24 @@ pub fn content<S: InScope, C: Cells, B: Below<C>>(
     requires deep { depth ≤ 128 }
     requires closed { IsClosed S.scope }
     requires same { C.scope cells.old ≡ S.scope }
-    requires can { CanRun S.scope (asking (cell inst slot) (meaning.content (meaning.eval S.scope.doc depth) inst slot)) }
-    ensures ran { Ran S.scope (asking (cell inst slot) (meaning.content (meaning.eval S.scope.doc depth) inst slot)) (C.asked cells.old) (C.asked cells.new) result }
+    requires can { CanRun S.scope (asking (cell inst slot) (meaning.content (meaning.eval
+        S.scope.doc depth) inst slot)) }
+    ensures ran { Ran S.scope (asking (cell inst slot) (meaning.content (meaning.eval S.scope.doc
+        depth) inst slot)) (C.asked cells.old) (C.asked cells.new) result }
     ensures same { C.scope cells.new ≡ S.scope }
 {
     from_kept(cells.kept(
         inst,
         slot,
         |c: &mut C| -> Result<Kept, NoMemory>
-            requires below { IsBelow C.scope C.asked B.can_eval B.eval_gives below.now S.scope depth }
+            requires below { IsBelow C.scope C.asked B.can_eval B.eval_gives below.now S.scope
+                depth }
             requires deep { depth ≤ 128 }
             requires same { C.scope c.old ≡ S.scope }
-            requires can { CanRun S.scope (meaning.content (meaning.eval S.scope.doc depth) inst slot) }
-            ensures exact { Answers (cell inst slot) (asked_by (C.scope c.old).doc (cell inst slot)) (C.scope c.old) (C.scope c.new) (C.asked c.old) (C.asked c.new) result }
+            requires can { CanRun S.scope (meaning.content (meaning.eval S.scope.doc depth) inst
+                slot) }
+            ensures exact { Answers (cell inst slot) (asked_by (C.scope c.old).doc (cell inst
+                slot)) (C.scope c.old) (C.scope c.new) (C.asked c.old) (C.asked c.new) result }
         { made_cell::<S, C, B>(alloc, inst, slot, below, depth, c) },
     ))
 }
@@ -124,7 +130,8 @@ pub fn held<S: InScope, C: Cells, B: Below<C>>(
     requires closed { IsClosed S.scope }
     requires same { C.scope cells.old ≡ S.scope }
     requires can { CanRun S.scope (meaning.held (meaning.eval S.scope.doc depth) inst slot) }
-    ensures ran { Ran S.scope (meaning.held (meaning.eval S.scope.doc depth) inst slot) (C.asked cells.old) (C.asked cells.new) result }
+    ensures ran { Ran S.scope (meaning.held (meaning.eval S.scope.doc depth) inst slot) (C.asked
+        cells.old) (C.asked cells.new) result }
     ensures same { C.scope cells.new ≡ S.scope }
 {
     as_held(
@@ -149,8 +156,10 @@ pub fn instance<S: InScope, C: Cells, B: Below<C>>(
     requires below { IsBelow C.scope C.asked B.can_eval B.eval_gives below.now S.scope depth }
     requires deep { depth ≤ 128 }
     requires same { C.scope cells.old ≡ S.scope }
-    requires can { CanRun S.scope (meaning.instance S.scope.doc (meaning.eval S.scope.doc depth) inst slot place) }
-    ensures ran { Ran S.scope (meaning.instance S.scope.doc (meaning.eval S.scope.doc depth) inst slot place) (C.asked cells.old) (C.asked cells.new) result }
+    requires can { CanRun S.scope (meaning.instance S.scope.doc (meaning.eval S.scope.doc depth)
+        inst slot place) }
+    ensures ran { Ran S.scope (meaning.instance S.scope.doc (meaning.eval S.scope.doc depth) inst
+        slot place) (C.asked cells.old) (C.asked cells.new) result }
     ensures same { C.scope cells.new ≡ S.scope }
 {
     if is_cell(plan, slot) {
@@ -184,7 +193,8 @@ pub fn look<S: InScope, C: Cells, B: Below<C>>(
     requires closed { IsClosed S.scope }
     requires same { C.scope cells.old ≡ S.scope }
     requires can { CanRun S.scope (meaning.look (meaning.eval S.scope.doc depth) times value) }
-    ensures ran { Ran S.scope (meaning.look (meaning.eval S.scope.doc depth) times value) (C.asked cells.old) (C.asked cells.new) result }
+    ensures ran { Ran S.scope (meaning.look (meaning.eval S.scope.doc depth) times value) (C.asked
+        cells.old) (C.asked cells.new) result }
     ensures same { C.scope cells.new ≡ S.scope }
 {
     match held_cell(&value) {
@@ -213,8 +223,10 @@ fn lazy_content<S: InScope, C: Cells, B: Below<C>>(
     requires below { IsBelow C.scope C.asked B.can_eval B.eval_gives below.now S.scope depth }
     requires deep { depth ≤ 128 }
     requires same { C.scope cells.old ≡ S.scope }
-    requires can { CanRun S.scope (meaning.lazy_content S.scope.doc (meaning.eval S.scope.doc depth) inst slot place.now) }
-    ensures ran { Ran S.scope (meaning.lazy_content S.scope.doc (meaning.eval S.scope.doc depth) inst slot place.now) (C.asked cells.old) (C.asked cells.new) result }
+    requires can { CanRun S.scope (meaning.lazy_content S.scope.doc (meaning.eval S.scope.doc
+        depth) inst slot place.now) }
+    ensures ran { Ran S.scope (meaning.lazy_content S.scope.doc (meaning.eval S.scope.doc depth)
+        inst slot place.now) (C.asked cells.old) (C.asked cells.new) result }
     ensures same { C.scope cells.new ≡ S.scope }
 {
     match place.then_step(PlaceStep::Inside) {
@@ -238,8 +250,11 @@ fn made_lazy<S: InScope, C: Cells, B: Below<C>>(
     requires below { IsBelow C.scope C.asked B.can_eval B.eval_gives below.now S.scope depth }
     requires deep { depth ≤ 128 }
     requires same { C.scope cells.old ≡ S.scope }
-    requires can { CanRun S.scope (meaning.lazy_content S.scope.doc (meaning.eval S.scope.doc depth) inst slot place.now) }
-    ensures exact { Answers (lazy_at inst slot place.now) (asked_by (C.scope cells.old).doc (lazy_at inst slot place.now)) (C.scope cells.old) (C.scope cells.new) (C.asked cells.old) (C.asked cells.new) result }
+    requires can { CanRun S.scope (meaning.lazy_content S.scope.doc (meaning.eval S.scope.doc
+        depth) inst slot place.now) }
+    ensures exact { Answers (lazy_at inst slot place.now) (asked_by (C.scope cells.old).doc
+        (lazy_at inst slot place.now)) (C.scope cells.old) (C.scope cells.new) (C.asked cells.old)
+        (C.asked cells.new) result }
 {
     to_keep(lazy_content::<S, C, B>(alloc, plan, inst, slot, place, below, depth, cells))
 }
@@ -259,8 +274,11 @@ pub fn inside_lazy<S: InScope, C: Cells, B: Below<C>>(
     requires below { IsBelow C.scope C.asked B.can_eval B.eval_gives below.now S.scope depth }
     requires deep { depth ≤ 128 }
     requires same { C.scope cells.old ≡ S.scope }
-    requires can { CanRun S.scope (asking (lazy_at inst slot place.now) (meaning.lazy_content S.scope.doc (meaning.eval S.scope.doc depth) inst slot place.now)) }
-    ensures ran { Ran S.scope (asking (lazy_at inst slot place.now) (meaning.lazy_content S.scope.doc (meaning.eval S.scope.doc depth) inst slot place.now)) (C.asked cells.old) (C.asked cells.new) result }
+    requires can { CanRun S.scope (asking (lazy_at inst slot place.now) (meaning.lazy_content
+        S.scope.doc (meaning.eval S.scope.doc depth) inst slot place.now)) }
+    ensures ran { Ran S.scope (asking (lazy_at inst slot place.now) (meaning.lazy_content
+        S.scope.doc (meaning.eval S.scope.doc depth) inst slot place.now)) (C.asked cells.old)
+        (C.asked cells.new) result }
     ensures same { C.scope cells.new ≡ S.scope }
 {
     from_kept(cells.lazy(
@@ -269,11 +287,15 @@ pub fn inside_lazy<S: InScope, C: Cells, B: Below<C>>(
         place,
         |c: &mut C| -> Result<Kept, NoMemory>
             requires fit { IsFit S.scope plan.now (world_of S.scope.doc) }
-            requires below { IsBelow C.scope C.asked B.can_eval B.eval_gives below.now S.scope depth }
+            requires below { IsBelow C.scope C.asked B.can_eval B.eval_gives below.now S.scope
+                depth }
             requires deep { depth ≤ 128 }
             requires same { C.scope c.old ≡ S.scope }
-            requires can { CanRun S.scope (meaning.lazy_content S.scope.doc (meaning.eval S.scope.doc depth) inst slot place.now) }
-            ensures exact { Answers (lazy_at inst slot place.entry.now) (asked_by (C.scope c.old).doc (lazy_at inst slot place.entry.now)) (C.scope c.old) (C.scope c.new) (C.asked c.old) (C.asked c.new) result }
+            requires can { CanRun S.scope (meaning.lazy_content S.scope.doc (meaning.eval
+                S.scope.doc depth) inst slot place.now) }
+            ensures exact { Answers (lazy_at inst slot place.entry.now) (asked_by (C.scope
+                c.old).doc (lazy_at inst slot place.entry.now)) (C.scope c.old) (C.scope c.new)
+                (C.asked c.old) (C.asked c.new) result }
         { made_lazy::<S, C, B>(alloc, plan, inst, slot, place, below, depth, c) },
     ))
 }
