@@ -1,6 +1,6 @@
 //! Writes texts to a sink.
 
-ghost use Rattle.std.specs.Prelude.{◌≡◌, ◌≤◌, ◌<◌, ℕ, length, take, OnOk, OnErr};
+ghost use Rattle.std.specs.Prelude.{◌≡◌, ◌≤◌, ◌<◌, ◌⊎◌, ℕ, length, take, IfOk, OnOk, OnErr};
 ghost use Rattle.std.specs.Io.KnownBytes.{Appends};
 ghost use Rattle.dg_io.specs.Causes.{Rose};
 ghost use Rattle.dg_top.specs.Ends.{Ends, IsMade};
@@ -30,6 +30,7 @@ pub fn write_all<K: Sink>(sink: &mut K, text: &[u8]) -> Result<(), Failed>
 pub fn write_answer<K: Sink>(made: Result<Answer, NoMemory>, sink: &mut K) -> Status
     ensures exact { Ends (IsMade made) (K.written sink.old) (K.written sink.new)
         (K.faults sink.old) (K.faults sink.new) result }
+    ensures given { IfOk made (λ a. (result ≡ a.status) ⊎ (result ≡ Status.WriteFault)) }
     ensures faults { K.faults sink.old ≤ K.faults sink.new }
 {
     match made {
