@@ -24,8 +24,14 @@ impl<'a> Model for Site<'a> {
 
     ghost Value = { sites.Site };
 
-    ghost coded = { Prim.hlevel (codes, tree.the_row.coded, expr.the_row.coded, cond.the_row.coded,
-        value.the_row.coded, kept.the_row.coded) };
+    ghost coded = { Prim.hlevel (
+      codes,
+      tree.the_row.coded,
+      expr.the_row.coded,
+      cond.the_row.coded,
+      value.the_row.coded,
+      kept.the_row.coded,
+    ) };
 
     ghost view = { λ s. record {
       plan = s.plan.now;

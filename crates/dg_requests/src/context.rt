@@ -1,7 +1,18 @@
 //! What is looked up by number, in the plan of a document and its world.
 
-ghost use Rattle.std.specs.Prelude.{◌≡◌, ◌<◌, ℕ, true, false, Option, Some, IsSome, option_map,
-    option_and_then, slice_get};
+ghost use Rattle.std.specs.Prelude.{
+  ◌≡◌,
+  ◌<◌,
+  ℕ,
+  true,
+  false,
+  Option,
+  Some,
+  IsSome,
+  option_map,
+  option_and_then,
+  slice_get,
+};
 ghost use Rattle.std.specs.Option.{option_copied, option_map_or};
 ghost use Rattle.dg_decl.specs.declared.document.Doc.{Doc};
 ghost use Rattle.dg_decl.specs.declared.graph.Node.{Node};
@@ -13,9 +24,23 @@ ghost use Rattle.dg_slots.specs.Plans.{slot_of};
 ghost use Rattle.dg_eval.specs.declared.world.World.{World as world_type};
 ghost use Rattle.dg_eval.specs.World as spec;
 ghost use Rattle.dg_eval.specs.Meaning as meaning;
-ghost use Rattle.dg_requests.specs.Contexts.{IsContextOf, IsInputFor, as_look, slot_there,
-    is_kept_at, value_at, counted_at, parent_at, is_producing, gives_first_param, as_instance,
-    passed_by, IsBound, WalksAreShort, IsBehind};
+ghost use Rattle.dg_requests.specs.Contexts.{
+  IsContextOf,
+  IsInputFor,
+  as_look,
+  slot_there,
+  is_kept_at,
+  value_at,
+  counted_at,
+  parent_at,
+  is_producing,
+  gives_first_param,
+  as_instance,
+  passed_by,
+  IsBound,
+  WalksAreShort,
+  IsBehind,
+};
 
 use dg_eval::World;
 use dg_slots::{Body, CellKind, Input, NExpr, NTree, Plan, Slot};
