@@ -11,9 +11,8 @@ ghost use Rattle.dg_session.specs.Arguments.{names_of};
 
 use crate::scene::Scene;
 use dg_decl::{Bound, OpenArg};
-use dg_names::Names;
 use dg_types::Name;
-use dg_typing::checks;
+use dg_typing::{TypeNames, checks};
 
 /// The bound argument of a name. It looks through them, and may take time in their number.
 fn bound_named<'a>(bounds: &'a [Bound], name: &[u8]) -> Option<&'a Bound>
@@ -44,7 +43,7 @@ fn has_argument(args: &[OpenArg], name: &Name) -> bool
 }
 
 /// Whether an argument is that of a bound argument, and checks against its type.
-fn fits_bound<'a>(names: &Names<'a>, bounds: &[Bound], arg: &'a OpenArg) -> bool
+fn fits_bound<'a>(names: &TypeNames<'a>, bounds: &[Bound], arg: &'a OpenArg) -> bool
     ensures exact { result ≡ stage.fits_bound names.now bounds.now arg.now }
 {
     match bound_named(bounds, arg.name.as_slice()) {
@@ -54,7 +53,7 @@ fn fits_bound<'a>(names: &Names<'a>, bounds: &[Bound], arg: &'a OpenArg) -> bool
 }
 
 /// Whether an argument fits, and none of the earlier ones has its name.
-fn is_good<'a>(names: &Names<'a>, bounds: &[Bound], earlier: &[OpenArg], arg: &'a OpenArg) -> bool
+fn is_good<'a>(names: &TypeNames<'a>, bounds: &[Bound], earlier: &[OpenArg], arg: &'a OpenArg) -> bool
     ensures exact { result ≡ (stage.fits_bound names.now bounds.now arg.now
         && not (is_among arg.now.name (names_of earlier.now))) }
 {
@@ -66,7 +65,7 @@ fn is_good<'a>(names: &Names<'a>, bounds: &[Bound], earlier: &[OpenArg], arg: &'
 }
 
 /// The first of the arguments that is unknown, repeats an earlier one or doesn't check.
-fn first_bad<'a>(names: &Names<'a>, bounds: &[Bound], args: &'a [OpenArg]) -> Option<&'a Name>
+fn first_bad<'a>(names: &TypeNames<'a>, bounds: &[Bound], args: &'a [OpenArg]) -> Option<&'a Name>
     ensures exact { option_to_list (option_map (λ n. n.now) result)
         ≡ stage.first_of (stage.bad_given names.now bounds.now [] args.now) }
 {
@@ -93,7 +92,7 @@ fn first_missing<'a>(bounds: &'a [Bound], args: &[OpenArg]) -> Option<&'a Name>
 
 /// The first argument that is bad: of those that are given, or else of those that are missing.
 pub(crate) fn first_wrong<'a>(
-    names: &Names<'a>,
+    names: &TypeNames<'a>,
     bounds: &'a [Bound],
     args: &'a [OpenArg],
 ) -> Option<&'a Name>

@@ -71,7 +71,7 @@ fn bad_argument<'a>(
         return Ok(None);
     };
     let bounds = bounds_of(scene, class.as_slice());
-    match first_wrong(scene.names(), bounds, args.as_slice()) {
+    match first_wrong(scene.type_names(), bounds, args.as_slice()) {
         Some(name) => Ok(Some(at_line(alloc, Rule::BadArgument, s, name.as_slice())?)),
         None => Ok(None),
     }

@@ -10,6 +10,7 @@ use crate::entry_table::{EntryTable, place_at, tables_of};
 use dg_decl::{Bound, Class, CompTree, Doc};
 use dg_names::Names;
 use dg_types::NoMemory;
+use dg_typing::TypeNames;
 use sqlite_items::at;
 use std::alloc::Global;
 use std::marker::Model;
@@ -18,7 +19,7 @@ use std::marker::Model;
 /// the document.
 #[derive(Drop)]
 pub(crate) struct Scene<'a> {
-    names: Names<'a>,
+    names: TypeNames<'a>,
     classes: &'a [Class],
     tables: Vec<EntryTable>,
 }
@@ -45,9 +46,9 @@ impl<'a> Scene<'a> {
         requires classes { t.now.classes ≡ component_classes d.now }
         ensures exact { IfOk result (λ scene. scene ≡ d.now) }
     {
-        let names = Names::of(alloc, d)?;
+        let names = TypeNames::of(alloc, d)?;
         let classes = t.classes.as_slice();
-        let tables = tables_of(alloc, &names, classes)?;
+        let tables = tables_of(alloc, names.names(), classes)?;
         Ok(Scene {
             names,
             classes,
@@ -56,6 +57,13 @@ impl<'a> Scene<'a> {
     }
 
     pub(crate) fn names(&self) -> &Names<'a>
+        ensures exact { result.now ≡ self.now }
+    {
+        self.names.names()
+    }
+
+    /// The names, with the interfaces that classes list.
+    pub(crate) fn type_names(&self) -> &TypeNames<'a>
         ensures exact { result.now ≡ self.now }
     {
         &self.names

@@ -2,6 +2,7 @@ pub mod TypesGiven
 pub mod TypesFields
 pub mod TypesByName
 pub mod TypesPlaced
+pub mod TypesListed
 pub mod NamesWanted
 pub mod NamesJudged
 pub mod NamesLines

@@ -9,10 +9,11 @@ ghost use Rattle.dg_decl.specs.Typing as spec;
 ghost use Rattle.dg_typing.specs.TypesFields.{fields_in};
 
 use super::given::{Given, class_of};
+use super::type_names::TypeNames;
 use dg_decl::{Item, Param};
 use dg_hilt::default_class;
 use dg_names::Names;
-use dg_types::{Name, Shape};
+use dg_types::Shape;
 use std::marker::Model;
 
 /// The fields of a class, in declared order. Contracts see the list of them.
@@ -120,32 +121,19 @@ pub fn type_of_field<'a>(names: &Names<'a>, of: &Given<'a>, field: &[u8]) -> Opt
     }
 }
 
-/// The interfaces that a class lists have this one.
-fn lists(names: &Names<'_>, class: &Name, interface: &Name) -> bool
-    ensures exact { result ≡ is_among interface.now (spec.interfaces_of names.now class.now) }
-{
-    match class_item(names, class.as_slice()) {
-        Some(Item::Class { interfaces, .. }) => interfaces
-            .as_slice()
-            .iter()
-            .any(|i| i == interface),
-        _ => false,
-    }
-}
-
 /// Whether the one is a class whose list has the other.
-fn implements(names: &Names<'_>, from: &Given<'_>, to: &Shape) -> bool
+fn implements(names: &TypeNames<'_>, from: &Given<'_>, to: &Shape) -> bool
     ensures exact { result ≡ spec.implements names.now (out-Shape from.now) (out-Shape to.now) }
 {
     match (from.class(), class_of(to)) {
-        (Some(class), Some(interface)) => lists(names, class, interface),
+        (Some(class), Some(interface)) => names.lists(class.as_slice(), interface.as_slice()),
         _ => false,
     }
 }
 
 /// Whether a value of the one type may stand where the other is wanted.
 #[tactic(auto, unfolding(dg_decl::specs::Typing::is_assignable))]
-pub fn is_assignable(names: &Names<'_>, from: &Given<'_>, to: &Shape) -> bool
+pub fn is_assignable(names: &TypeNames<'_>, from: &Given<'_>, to: &Shape) -> bool
     ensures exact { result ≡ spec.is_assignable names.now from.now to.now }
 {
     from.is(to) || implements(names, from, to)

@@ -10,10 +10,11 @@ use super::fields::{class_item, is_assignable};
 use super::given::Given;
 use super::places::{Takes, is_allowed, is_base_use, is_multi_use, is_plain_use, is_result_use};
 use super::trees::tree_checks;
+use super::type_names::TypeNames;
 use super::typing::checks;
 use crate::violation::{at_line, of_line};
 use dg_decl::{Item, Mark, Param, Rule, Violation};
-use dg_names::{Names, Statement};
+use dg_names::Statement;
 use dg_types::{Name, NoMemory, Shape, TypeUse, shape_text};
 use std::alloc::Global;
 
@@ -68,7 +69,7 @@ fn bad_result(
 #[tactic(auto, using(crate::proofs::TypeRules::bad_among_two), unfolding(dg_decl::specs::Stages::Types::bad_type, dg_decl::specs::Stages::Types::types_of))]
 fn bad_type(
     alloc: Global,
-    _names: &Names<'_>,
+    _names: &TypeNames<'_>,
     s: &Statement<'_>,
     out: &mut Vec<Violation>,
 ) -> Result<(), NoMemory>
@@ -138,12 +139,12 @@ fn optional_class(item: &Item) -> Option<&Name>
 }
 
 /// Whether the class of this name has `@Inject`.
-fn is_injected(names: &Names<'_>, class: &Name) -> bool
+fn is_injected(names: &TypeNames<'_>, class: &Name) -> bool
     ensures exact { result ≡ option_map_or spec.is_injected
         (option_and_then (declared.item_at names.now)
         (declared.class_item_named names.now class.now)) false }
 {
-    match class_item(names, class.as_slice()) {
+    match class_item(names.names(), class.as_slice()) {
         Some(Item::Class { inject, .. }) => *inject,
         _ => false,
     }
@@ -153,7 +154,7 @@ fn is_injected(names: &Names<'_>, class: &Name) -> bool
 #[tactic(auto, unfolding(dg_decl::specs::Stages::Types::optional_of_inject))]
 fn optional_of_inject(
     alloc: Global,
-    names: &Names<'_>,
+    names: &TypeNames<'_>,
     s: &Statement<'_>,
     out: &mut Vec<Violation>,
 ) -> Result<(), NoMemory>
@@ -171,7 +172,7 @@ fn optional_of_inject(
 }
 
 /// Whether a body checks against the type of its result.
-fn has_its_type<'a>(names: &Names<'a>, item: &'a Item) -> bool
+fn has_its_type<'a>(names: &TypeNames<'a>, item: &'a Item) -> bool
     ensures exact { result ≡ spec.has_its_type names.now item.now }
 {
     match item {
@@ -198,7 +199,7 @@ fn has_its_type<'a>(names: &Names<'a>, item: &'a Item) -> bool
 #[tactic(auto, unfolding(dg_decl::specs::Stages::Types::type_mismatch))]
 fn type_mismatch<'a>(
     alloc: Global,
-    names: &Names<'a>,
+    names: &TypeNames<'a>,
     s: &Statement<'a>,
     out: &mut Vec<Violation>,
 ) -> Result<(), NoMemory>
@@ -214,7 +215,7 @@ fn type_mismatch<'a>(
 /// What a statement breaks, by rule.
 pub fn types_at<'a>(
     alloc: Global,
-    names: &Names<'a>,
+    names: &TypeNames<'a>,
     s: &Statement<'a>,
     out: &mut Vec<Violation>,
 ) -> Result<(), NoMemory>

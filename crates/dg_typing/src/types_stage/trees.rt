@@ -7,9 +7,9 @@ ghost use Rattle.dg_decl.specs.Typing as spec;
 use super::fields::{is_assignable, type_of_param};
 use super::given::Given;
 use super::shapes::awaited;
+use super::type_names::TypeNames;
 use super::typing::{checks, is_typed_condition};
 use dg_decl::{Param, Tree};
-use dg_names::Names;
 use dg_types::Shape;
 
 /// What `await` gives of a parameter.
@@ -26,7 +26,7 @@ fn awaited_param<'a>(params: &'a [Param], name: &[u8]) -> Option<Given<'a>>
 }
 
 /// Whether what `await` gives of a parameter is assignable to a type.
-fn awaits(names: &Names<'_>, params: &[Param], name: &[u8], wanted: &Shape) -> bool
+fn awaits(names: &TypeNames<'_>, params: &[Param], name: &[u8], wanted: &Shape) -> bool
     ensures exact { result ≡ option_map_or (λ t. spec.is_assignable names.now t wanted.now)
         (spec.part spec.awaited_at (spec.type_of_param params.now name.now)) false }
 {
@@ -39,7 +39,7 @@ fn awaits(names: &Names<'_>, params: &[Param], name: &[u8], wanted: &Shape) -> b
 /// Whether a tree checks against a type.
 #[tactic(auto, using(crate::proofs::TypeTrees::trees))]
 pub fn tree_checks<'a>(
-    names: &Names<'a>,
+    names: &TypeNames<'a>,
     params: &'a [Param],
     tree: &'a Tree,
     wanted: &Shape,

@@ -12,8 +12,8 @@ ghost use Rattle.dg_typing.specs.TypesByName.{given_by};
 use super::fields::{fields_of, is_assignable, type_of_field, type_of_param};
 use super::given::{Given, values};
 use super::shapes::{element, got, inside, is_optional, produced};
+use super::type_names::TypeNames;
 use dg_decl::{CallName, Cond, Expr, Param, ParamCall};
-use dg_names::Names;
 use dg_types::Shape;
 
 /// Whether an expression checks against `Text`, and whether against `Int`.
@@ -111,7 +111,7 @@ fn if_so<'a>(holds: bool, given: Given<'a>) -> Option<Given<'a>>
 /// The type that an expression gives by itself, where it has one.
 #[tactic(auto, using(crate::proofs::TypeExpressions::gives))]
 #[cycle(typing)]
-pub fn synth<'a>(names: &Names<'a>, params: &'a [Param], e: &'a Expr) -> Option<Given<'a>>
+pub fn synth<'a>(names: &TypeNames<'a>, params: &'a [Param], e: &'a Expr) -> Option<Given<'a>>
     ensures exact { result ≡ spec.synth names.now params.now e.now }
 {
     match e {
@@ -125,7 +125,7 @@ pub fn synth<'a>(names: &Names<'a>, params: &'a [Param], e: &'a Expr) -> Option<
             )
         }
         Expr::Field { of, field } => match synth(names, params, of.get()) {
-            Some(given) => type_of_field(names, &given, field.as_slice()),
+            Some(given) => type_of_field(names.names(), &given, field.as_slice()),
             None => None,
         },
         Expr::Sum(a, b) => {
@@ -146,7 +146,7 @@ pub fn synth<'a>(names: &Names<'a>, params: &'a [Param], e: &'a Expr) -> Option<
 /// The type that a call of expressions gives.
 #[cycle(typing)]
 fn type_of_call<'a>(
-    names: &Names<'a>,
+    names: &TypeNames<'a>,
     params: &'a [Param],
     f: CallName,
     args: &'a [Expr],
@@ -168,12 +168,12 @@ fn type_of_call<'a>(
 /// Whether the arguments are those of a `new`: as many as the fields of the class, and each checks
 /// against its field's type.
 #[cycle(typing)]
-fn makes<'a>(names: &Names<'a>, params: &'a [Param], class: &[u8], args: &'a [Expr]) -> bool
+fn makes<'a>(names: &TypeNames<'a>, params: &'a [Param], class: &[u8], args: &'a [Expr]) -> bool
     ensures exact { result ≡ option_map_or
         (spec.arguments_check (map (spec.typed names.now params.now) args.now))
         (declared_fields names.now class.now) false }
 {
-    match fields_of(names, class) {
+    match fields_of(names.names(), class) {
         Some(fields) => match fields.declared() {
             Some(fields) => arguments_check(names, params, args, fields),
             None => one_checks(names, params, args, &Shape::Text),
@@ -186,7 +186,7 @@ fn makes<'a>(names: &Names<'a>, params: &'a [Param], class: &[u8], args: &'a [Ex
 #[tactic(auto, using(crate::proofs::TypeArguments::as_many))]
 #[cycle(typing)]
 fn arguments_check<'a>(
-    names: &Names<'a>,
+    names: &TypeNames<'a>,
     params: &'a [Param],
     args: &'a [Expr],
     fields: &[Param],
@@ -207,7 +207,7 @@ fn arguments_check<'a>(
 
 /// Whether each of the arguments checks against a type.
 #[cycle(typing)]
-fn each_checks<'a>(names: &Names<'a>, params: &'a [Param], args: &'a [Expr], wanted: &Shape) -> bool
+fn each_checks<'a>(names: &TypeNames<'a>, params: &'a [Param], args: &'a [Expr], wanted: &Shape) -> bool
     ensures exact { result ≡ list_all (λ x. x.checks wanted.now)
         (map (spec.typed names.now params.now) args.now) }
 {
@@ -221,7 +221,7 @@ fn each_checks<'a>(names: &Names<'a>, params: &'a [Param], args: &'a [Expr], wan
 
 /// Whether there is one argument, and it checks against a type.
 #[cycle(typing)]
-fn one_checks<'a>(names: &Names<'a>, params: &'a [Param], args: &'a [Expr], wanted: &Shape) -> bool
+fn one_checks<'a>(names: &TypeNames<'a>, params: &'a [Param], args: &'a [Expr], wanted: &Shape) -> bool
     ensures exact { result
         ≡ spec.one_checks (map (spec.typed names.now params.now) args.now) wanted.now }
 {
@@ -233,7 +233,7 @@ fn one_checks<'a>(names: &Names<'a>, params: &'a [Param], args: &'a [Expr], want
 
 /// Whether there is one argument, and it gives a text, a set or a map.
 #[cycle(typing)]
-fn one_has_size<'a>(names: &Names<'a>, params: &'a [Param], args: &'a [Expr]) -> bool
+fn one_has_size<'a>(names: &TypeNames<'a>, params: &'a [Param], args: &'a [Expr]) -> bool
     ensures exact { result
         ≡ spec.one_has_size (map (spec.typed names.now params.now) args.now) }
 {
@@ -248,7 +248,7 @@ fn one_has_size<'a>(names: &Names<'a>, params: &'a [Param], args: &'a [Expr]) ->
 
 /// Whether the type that an expression gives by itself is assignable to a type.
 #[cycle(typing)]
-fn synthesizes<'a>(names: &Names<'a>, params: &'a [Param], e: &'a Expr, wanted: &Shape) -> bool
+fn synthesizes<'a>(names: &TypeNames<'a>, params: &'a [Param], e: &'a Expr, wanted: &Shape) -> bool
     ensures exact { result ≡ option_map_or (λ t. spec.is_assignable names.now t wanted.now)
         (spec.synth names.now params.now e.now) false }
 {
@@ -261,7 +261,7 @@ fn synthesizes<'a>(names: &Names<'a>, params: &'a [Param], e: &'a Expr, wanted: 
 /// Whether an expression checks against a type.
 #[tactic(auto, using(crate::proofs::TypeExpressions::checks))]
 #[cycle(typing)]
-pub fn checks<'a>(names: &Names<'a>, params: &'a [Param], e: &'a Expr, wanted: &Shape) -> bool
+pub fn checks<'a>(names: &TypeNames<'a>, params: &'a [Param], e: &'a Expr, wanted: &Shape) -> bool
     ensures exact { result ≡ spec.checks names.now params.now e.now wanted.now }
 {
     match e {
@@ -294,7 +294,7 @@ pub fn checks<'a>(names: &Names<'a>, params: &'a [Param], e: &'a Expr, wanted: &
 /// Whether a condition is typed.
 #[tactic(auto, using(crate::proofs::TypeExpressions::conditions))]
 #[cycle(typing)]
-pub fn is_typed_condition<'a>(names: &Names<'a>, params: &'a [Param], cond: &'a Cond) -> bool
+pub fn is_typed_condition<'a>(names: &TypeNames<'a>, params: &'a [Param], cond: &'a Cond) -> bool
     ensures exact { result ≡ spec.is_typed_condition names.now params.now cond.now }
 {
     match cond {
@@ -316,7 +316,7 @@ pub fn is_typed_condition<'a>(names: &Names<'a>, params: &'a [Param], cond: &'a 
 /// once for both.
 #[tactic(auto, using(crate::proofs::TypeExpressions::checks))]
 #[cycle(typing)]
-fn primitives_of<'a>(names: &Names<'a>, params: &'a [Param], e: &'a Expr) -> Primitives
+fn primitives_of<'a>(names: &TypeNames<'a>, params: &'a [Param], e: &'a Expr) -> Primitives
     ensures text { result.text ≡ spec.checks names.now params.now e.now shape.Text }
     ensures int { result.int ≡ spec.checks names.now params.now e.now shape.Int }
 {
@@ -358,7 +358,7 @@ fn primitives_of<'a>(names: &Names<'a>, params: &'a [Param], e: &'a Expr) -> Pri
 /// Whether the type that an expression gives by itself is assignable to `Text`, and whether to
 /// `Int`.
 #[cycle(typing)]
-fn given_primitives<'a>(names: &Names<'a>, params: &'a [Param], e: &'a Expr) -> Primitives
+fn given_primitives<'a>(names: &TypeNames<'a>, params: &'a [Param], e: &'a Expr) -> Primitives
     ensures text { result.text ≡ option_map_or
         (λ t. spec.is_assignable names.now t shape.Text)
         (spec.synth names.now params.now e.now) false }
