@@ -4,6 +4,7 @@ pub mod TypeArguments
 pub mod TypePlaces
 pub mod TypeTrees
 pub mod TypeRules
+pub mod TypeListings
 pub mod NamesWanted
 pub mod NamesJudged
 pub mod NamesLines

@@ -54,8 +54,11 @@ fn note_interfaces<'a>(
         (AddsListings class interfaces.now listed.old.keys listed.new.keys) }
 {
     for interface in interfaces {
-        let interface = interface.as_slice();
-        let _is_new = listed.insert(Listing { class, interface })?;
+        let listing = Listing {
+            class,
+            interface: interface.as_slice(),
+        };
+        listed.insert(listing)?;
     }
     Ok(())
 }

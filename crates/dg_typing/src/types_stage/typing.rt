@@ -207,7 +207,12 @@ fn arguments_check<'a>(
 
 /// Whether each of the arguments checks against a type.
 #[cycle(typing)]
-fn each_checks<'a>(names: &TypeNames<'a>, params: &'a [Param], args: &'a [Expr], wanted: &Shape) -> bool
+fn each_checks<'a>(
+    names: &TypeNames<'a>,
+    params: &'a [Param],
+    args: &'a [Expr],
+    wanted: &Shape,
+) -> bool
     ensures exact { result ≡ list_all (λ x. x.checks wanted.now)
         (map (spec.typed names.now params.now) args.now) }
 {
@@ -221,7 +226,12 @@ fn each_checks<'a>(names: &TypeNames<'a>, params: &'a [Param], args: &'a [Expr],
 
 /// Whether there is one argument, and it checks against a type.
 #[cycle(typing)]
-fn one_checks<'a>(names: &TypeNames<'a>, params: &'a [Param], args: &'a [Expr], wanted: &Shape) -> bool
+fn one_checks<'a>(
+    names: &TypeNames<'a>,
+    params: &'a [Param],
+    args: &'a [Expr],
+    wanted: &Shape,
+) -> bool
     ensures exact { result
         ≡ spec.one_checks (map (spec.typed names.now params.now) args.now) wanted.now }
 {
