@@ -53,7 +53,12 @@ fn fits_bound<'a>(names: &TypeNames<'a>, bounds: &[Bound], arg: &'a OpenArg) -> 
 }
 
 /// Whether an argument fits, and none of the earlier ones has its name.
-fn is_good<'a>(names: &TypeNames<'a>, bounds: &[Bound], earlier: &[OpenArg], arg: &'a OpenArg) -> bool
+fn is_good<'a>(
+    names: &TypeNames<'a>,
+    bounds: &[Bound],
+    earlier: &[OpenArg],
+    arg: &'a OpenArg,
+) -> bool
     ensures exact { result ≡ (stage.fits_bound names.now bounds.now arg.now
         && not (is_among arg.now.name (names_of earlier.now))) }
 {

@@ -1,5 +1,5 @@
 -- Which predefined names there are, and what a name may stand for.
-use Rattle.std.proofs.Common.{◌≡◌, ◌||◌, ◌+◌, ◌∷◌, [], ℕ, if◌then◌else◌, Some, List, Bool, true, false, Option, is_some, codes, refl, ap, sym, ◌∙◌}
+use Rattle.std.proofs.Common.{◌≡◌, ◌||◌, ◌+◌, ◌∷◌, [], ℕ, if◌then◌else◌, Some, List, Bool, true, false, Option, is_some, codes, refl}
 use Rattle.std.specs.List.{list_any, find, position_from}
 use Rattle.std.specs.Str.{bytes_eq}
 use Rattle.dg_lex.specs.Bytes.{Bytes, is_among}

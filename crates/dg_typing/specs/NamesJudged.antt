@@ -1,5 +1,5 @@
 -- What mentions of names break.
-use Rattle.std.specs.Prelude.{Bool, not, List, map, filter}
+use Rattle.std.specs.Prelude.{not, List, map, filter}
 use Rattle.dg_decl.specs.declared.document.Doc.{Doc}
 use Rattle.dg_decl.specs.declared.violation.Rule.TheVariants as rule
 use Rattle.dg_decl.specs.declared.violation.Violation.{Violation}

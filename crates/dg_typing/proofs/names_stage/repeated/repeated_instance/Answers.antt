@@ -1,9 +1,7 @@
-use Rattle.std.proofs.Common.{◌||◌, ap, ◌∙◌}
-use Rattle.dg_lex.specs.Bytes.{is_among}
-use Rattle.dg_hilt.specs.Names.{predefined_names}
+use Rattle.std.proofs.Common.{ap, ◌∙◌}
 use Rattle.dg_decl.specs.Document.{Statement}
 use Rattle.dg_decl.specs.Stages.Names.{has_earlier, anywhere, instance_name}
-use Rattle.dg_typing.proofs.NamesRepeated.{kept_one, kept_none, ok_as, declared_before}
+use Rattle.dg_typing.proofs.NamesRepeated.{kept_one, kept_none, ok_as}
 use Rattle.dg_typing.proofs.names_stage.repeated.repeated_instance.Goals as goal
 
 pub returns-in-Some : goal.returns-in-Some

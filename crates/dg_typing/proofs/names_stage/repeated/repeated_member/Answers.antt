@@ -1,4 +1,4 @@
-use Rattle.std.proofs.Common.{List, Option, [], if◌then◌else◌, ap, ◌∙◌}
+use Rattle.std.proofs.Common.{Option, [], if◌then◌else◌, ap, ◌∙◌}
 use Rattle.std.specs.Prelude.{option_to_list}
 use Rattle.dg_lex.specs.Bytes.{Bytes}
 use Rattle.dg_decl.specs.Document.{Statement}
