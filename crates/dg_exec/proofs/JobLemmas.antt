@@ -1,6 +1,7 @@
 -- The jobs of a document, by its plan, its world and its session.
-use Rattle.std.proofs.Common.{◌≡◌, ℕ, ◌+◌, ◌<◌, ◌≤◌, List, [], ◌∷◌, ◌++◌, length, get_or, drop, map, append_assoc, append-nil, refl, sym, ap, ◌∙◌}
+use Rattle.std.proofs.Common.{◌≡◌, ℕ, ◌+◌, ◌<◌, ◌≤◌, List, [], ◌∷◌, ◌++◌, length, get_or, drop, map, append_assoc, append-nil, refl, sym, ap, subst, ◌∙◌}
 use Rattle.std.proofs.lemmas.List.{map-append, drop_more, drop_all}
+use Rattle.std.proofs.lemmas.Option.{get_or_from_slice_get, slice_get-get_or}
 use Rattle.dg_decl.specs.declared.document.Doc.{Doc}
 use Rattle.dg_slots.specs.declared.plan.Plan.{Plan}
 use Rattle.dg_slots.specs.declared.session.Ask.{Ask}
@@ -52,6 +53,15 @@ jobs_whole doc plan world s of e cells keys are table rows all first later =
       here,
     )
 
+-- the same rows, where they are added for a slice of the cells
+pub by_slice : (doc : Doc) (cells slice : List CellName) (rows all : List (List ℕ))
+    → slice ≡ cells → AreProducers doc cells
+    → (AreProducers doc slice → all ≡ rows ++ map (needed_by doc) slice)
+    → all ≡ rows ++ map (needed_by doc) cells
+by_slice doc cells slice rows all same are later =
+    later (subst (AreProducers doc) (sym same) are)
+    ∙ ap (λ (l : List CellName). rows ++ map (needed_by doc) l) same
+
 -- ---- rows, one after another
 
 -- a row is pushed for the next element
@@ -66,6 +76,13 @@ row_pushed {A} {B} kept f xs i x rows new row whole lt here is same before =
     ∙ (append_assoc (map kept rows) (kept row ∷ []) (map f later)
     ∙ (ap (λ (r : List ℕ). map kept rows ++ r ∷ map f later) (same ∙ ap f here)
     ∙ (ap (λ (l : List B). map kept rows ++ map f l) (sym (drop_more xs i x lt)) ∙ before))))
+
+-- an element that is read at an index
+pub read_here : {B : Type 0} (xs : List B) (i : ℕ) (d : B) → i < length xs
+    → get_or xs i d ≡ get_or xs i (get_or xs i d)
+read_here {B} xs i d lt =
+    let x : B = get_or xs i d in
+    sym (get_or_from_slice_get xs i x x (slice_get-get_or xs i d lt))
 
 -- none is left
 pub rows_end : {A B : Type 0} (kept : A → List ℕ) (f : B → List ℕ) (xs : List B) (i : ℕ)

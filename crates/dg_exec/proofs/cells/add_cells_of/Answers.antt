@@ -1,5 +1,6 @@
-use Rattle.std.proofs.Common.{◌++◌, ℕ, List, Vec, map, ap, sym, ◌∙◌}
+use Rattle.std.proofs.Common.{◌++◌, ℕ, List, Vec, length, map, refl, ap, sym, ◌∙◌}
 use Rattle.std.specs.Global.{Global}
+use Rattle.std.proofs.lemmas.Option.{slice_get_read}
 use Rattle.dg_exec.specs.declared.cells.CellName.{CellName}
 use Rattle.dg_exec.specs.Tables.{cell_at}
 use Rattle.dg_exec.proofs.CellTables.{row_found}
@@ -11,5 +12,6 @@ returns-in-Some c = record {
       ∙ ap (λ (l : List ℕ). c.args.cells.now.items ++ map (cell_at c.args.inst) l)
       (c.as_slice.ensures.value ∙ row_found (λ (row : Vec ℕ Global). row.items)
       c.args.plan.now.slots c.args.rows.now c.args.class c.in-Some.row.now c.requires.rows
-      c.in-Some.ensures.lookup);
+      (sym (slice_get_read c.args.rows.now (length c.args.rows.now) c.args.class c.in-Some.row.now
+      refl c.in-Some.ensures.lookup.3.0 (c.in-Some.ensures.lookup.3.1 c.in-Some.row.now))));
 }
