@@ -12,18 +12,17 @@ use Rattle.dg_decl.proofs.MemberLemmas.{in_map}
 use Rattle.dg_slots.specs.declared.plan.Plan.{Plan}
 use Rattle.dg_slots.specs.declared.plan.Slot.{Slot}
 use Rattle.dg_slots.specs.declared.session.Inst.{Inst}
-use Rattle.dg_slots.specs.declared.session.Session.{Session}
 use Rattle.dg_slots.specs.Plans.{cell_of, slot_of, slots_of, plan_of}
-use Rattle.dg_slots.specs.Sessions.{insts_of, asks_of, session_of}
+use Rattle.dg_slots.specs.Sessions.{insts_of, asks_of}
 use Rattle.dg_eval.specs.declared.world.World.{World}
 use Rattle.dg_eval.specs.Asks.{CellName as Cell, same_cell, each_once}
-use Rattle.dg_eval.specs.Meaning.{node_at, enough}
+use Rattle.dg_eval.specs.Meaning.{enough}
 use Rattle.dg_eval.specs.World.{world_of}
 use Rattle.dg_eval.proofs.InputLists.{first_place, position_is}
-use Rattle.dg_requests.specs.Contexts.{IsContextOf, is_producing}
+use Rattle.dg_requests.specs.Contexts.{is_producing}
 use Rattle.dg_requests.proofs.Passing.{producing_cell, no_producer}
 use Rattle.dg_exec.specs.declared.cells.CellName.{CellName}
-use Rattle.dg_exec.specs.Jobs.{is_producer_of, producer_cell, producer_cells, is_producer_at, job_of_cell, reached, needed}
+use Rattle.dg_exec.specs.Jobs.{is_producer_of, producer_cell, producer_cells, job_of_cell, reached, needed}
 use Rattle.dg_exec.specs.Numbers.{job_in, IsTable, AreProducers}
 use Rattle.dg_exec.specs.Tables.{as_cell, as_name, producer_number, producers_of, AreRows, cell_at, cells_of, all_cells, same_name, with_cells}
 use Rattle.dg_exec.proofs.CellLists.{from_nothing, once_already}

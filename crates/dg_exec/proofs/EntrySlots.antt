@@ -1,5 +1,5 @@
 -- The slot of the entry that an ask asks for is that of its node.
-use Rattle.std.proofs.Common.{◌≡◌, ◌<◌, ℕ, ◌+◌, List, [], length, get_or, slice_get, Contains, Option, Some, None, option_map, option_and_then, refl, sym, ap, subst, ◌∙◌, arith}
+use Rattle.std.proofs.Common.{◌≡◌, ◌<◌, ℕ, ◌+◌, List, [], length, get_or, slice_get, Contains, Option, Some, None, option_map, option_and_then, refl, sym, ap, ◌∙◌, arith}
 use Rattle.std.specs.List.{range_with_len}
 use Rattle.std.specs.Option.{option_map_or}
 use Rattle.std.proofs.lemmas.Option.{none-some, slice_get-map, slice_get_read}
@@ -21,7 +21,7 @@ use Rattle.dg_slots.specs.Sessions.{inst_of, insts_of}
 use Rattle.dg_slots.specs.Plans.{entries_of_class, entry_slots, plan_of}
 use Rattle.dg_eval.specs.declared.world.World.{World}
 use Rattle.dg_eval.specs.World.{inst_at, class_of_inst}
-use Rattle.dg_eval.specs.Meaning.{node_at, node_in}
+use Rattle.dg_eval.specs.Meaning.{node_in}
 use Rattle.dg_eval.specs.Asks.{entry_node}
 use Rattle.dg_eval.proofs.EntryNodes.{asked_entry}
 use Rattle.dg_eval.proofs.InputLists.{EachGiven, given_at}
@@ -133,10 +133,12 @@ entry_slot_is doc plan world of a k is =
     let class = out_and_then _ (class_of_inst doc a.inst) o.0 o.1 in
     let entry = out_option_map (λ (e : ℕ). node_of class.0 (node.EntryOf e))
     (slice_get (entries_of doc class.0) a.entry) o.0 class.2 in
+    let opened : Node = node_of class.0 (node.EntryOf entry.0) in
+    let same : class.0 ≡ o.0.class = ap (λ (n : Node). n.class) {x = opened} entry.2 in
     record {
       node = o.0;
       is_asked = o.1;
-      is_node = in_its_class doc a.inst k o.0 (class.1 ∙ ap (λ (n : Node). Some n.class) entry.2)
+      is_node = in_its_class doc a.inst k o.0 (class.1 ∙ ap Some same)
           (number_is (nodes doc) o.0 k o.2);
     }
 

@@ -1,20 +1,21 @@
 -- The jobs of a document, by its plan, its world and its session.
-use Rattle.std.proofs.Common.{◌≡◌, ℕ, ◌+◌, ◌<◌, ◌≤◌, List, [], ◌∷◌, ◌++◌, length, get_or, drop, map, append_assoc, append-nil, refl, sym, ap, subst, ◌∙◌}
-use Rattle.std.proofs.lemmas.List.{map-append, drop_more, drop_all}
-use Rattle.std.proofs.lemmas.Option.{get_or_from_slice_get, slice_get-get_or}
+use Rattle.std.proofs.Common.{◌≡◌, ℕ, ◌+◌, ◌<◌, List, [], ◌∷◌, ◌++◌, length, get_or, drop, map, All, Contains, option_map, append_assoc, sym, ap, subst, refl, ◌∙◌}
+use Rattle.std.proofs.lemmas.List.{map-append, drop_more, length-map}
+use Rattle.std.proofs.lemmas.Option.{get_or_from_slice_get, slice_get-get_or, slice_get-map}
 use Rattle.dg_decl.specs.declared.document.Doc.{Doc}
 use Rattle.dg_slots.specs.declared.plan.Plan.{Plan}
 use Rattle.dg_slots.specs.declared.session.Ask.{Ask}
 use Rattle.dg_slots.specs.declared.session.Session.{Session}
 use Rattle.dg_slots.specs.Sessions.{asks_of, session_of}
 use Rattle.dg_eval.specs.declared.world.World.{World}
-use Rattle.dg_eval.specs.Asks.{CellName as Cell}
 use Rattle.dg_requests.specs.Contexts.{IsContextOf}
+use Rattle.dg_jobs.specs.Jobs.{Needs}
 use Rattle.dg_exec.specs.declared.cells.CellName.{CellName}
 use Rattle.dg_exec.specs.Jobs.{producer_cells, needed_by_ask, needed_by_cell, inputs_of_jobs}
 use Rattle.dg_exec.specs.Numbers.{IsTable, AreProducers, needed_by}
 use Rattle.dg_exec.specs.Tables.{as_cell, all_cells, with_cells}
 use Rattle.dg_exec.proofs.CellTables.{cells_are, table_is, producers_are}
+use Rattle.dg_exec.proofs.FitNeeds.{needs_cell, cell_job_within}
 
 asks_are : (doc : Doc) (s : Session) → s ≡ session_of doc → s.asks ≡ asks_of doc
 unfolding session_of
@@ -35,8 +36,8 @@ rows_are doc asks cells a c =
     λ i. map (needed_by_ask doc) (a i) ++ by_cells i
 
 pub jobs_whole : (doc : Doc) (plan : Plan) (world : World) (s : Session)
-    → IsContextOf doc plan world → s ≡ session_of doc → (cells keys : List CellName) → cells ≡ all_cells plan.slots world.class
-    → keys ≡ with_cells [] cells → (rows all : List (List ℕ))
+    → IsContextOf doc plan world → s ≡ session_of doc → (cells keys : List CellName)
+    → cells ≡ all_cells plan.slots world.class → keys ≡ with_cells [] cells → (rows all : List (List ℕ))
     → (IsTable doc (length s.asks) keys → rows ≡ map (needed_by_ask doc) s.asks)
     → (IsTable doc (length s.asks) keys → AreProducers doc cells
     → all ≡ rows ++ map (needed_by doc) cells)
@@ -84,10 +85,24 @@ read_here {B} xs i d lt =
     let x : B = get_or xs i d in
     sym (get_or_from_slice_get xs i x x (slice_get-get_or xs i d lt))
 
--- none is left
-pub rows_end : {A B : Type 0} (kept : A → List ℕ) (f : B → List ℕ) (xs : List B) (i : ℕ)
-    → (rows : List A) (whole : List (List ℕ)) → length xs ≤ i
-    → map kept rows ++ map f (drop i xs) ≡ whole → map kept rows ≡ whole
-rows_end {A} {B} kept f xs i rows whole past before =
-    sym (append-nil (map kept rows))
-    ∙ (ap (λ (l : List B). map kept rows ++ map f l) (sym (drop_all i xs past)) ∙ before)
+-- ---- the jobs that are needed are among the jobs
+
+pub inside : {A : Type 0} (kept : A → List ℕ) (doc : Doc) (rows : List A) (count : ℕ)
+    → length rows ≡ count → map kept rows ≡ inputs_of_jobs doc
+    → All (λ row. All (λ input. input < count) (kept row)) rows
+inside {A} kept doc rows count counted is k d lt j e within =
+    let row : A = get_or rows k d in
+    let input : ℕ = get_or (kept row) j e in
+    let here : get_or (map kept rows) k [] ≡ kept row =
+    get_or_from_slice_get (map kept rows) k (kept row) []
+    (slice_get-map kept rows k ∙ ap (option_map kept) (slice_get-get_or rows k d lt)) in
+    let P : List ℕ → Type 0 = λ l. Contains l input in
+    let needs : Needs (map kept rows) k input =
+    subst P (sym here) (j, within, sym (read_here (kept row) j e within)) in
+    let Q : List (List ℕ) → Type 0 = λ l. Needs l k input in
+    let c = needs_cell doc k input (subst Q is needs) in
+    let less : input < length (inputs_of_jobs doc) = (cell_job_within doc c.0 input c.1).1 in
+    let whole : length (inputs_of_jobs doc) ≡ count =
+    sym (ap (λ (l : List (List ℕ)). length l) is) ∙ (length-map rows kept ∙ counted) in
+    let R : ℕ → Type 0 = λ n. input < n in
+    subst R whole less

@@ -1,10 +1,10 @@
 -- What walks of direct edges find, one edge after another.
-use Rattle.std.proofs.Common.{◌≡◌, ◌⊎◌, inl, inr, ℕ, zero, suc, ◌+◌, ◌-◌, ◌<◌, ◌≤◌, ◌==◌, Bool, true, false, cond, List, [], ◌∷◌, ◌++◌, length, map, flat_map, take, get_or, slice_get, Contains, Option, Some, None, option_map, refl, sym, ap, subst, ◌∙◌, append-nil, arith}
+use Rattle.std.proofs.Common.{◌≡◌, inl, inr, ℕ, zero, suc, ◌+◌, ◌<◌, ◌≤◌, Bool, true, false, cond, List, [], ◌∷◌, ◌++◌, length, map, flat_map, take, get_or, slice_get, Contains, Option, Some, None, option_map, refl, sym, ap, subst, ◌∙◌, append-nil, arith}
 use Rattle.std.specs.Option.{option_map_or}
 use Rattle.std.proofs.lemmas.Bool.{false≢true}
 use Rattle.std.proofs.lemmas.Grind.{flat_map-append}
 use Rattle.std.proofs.lemmas.List.{map-append, take_more, take_all}
-use Rattle.std.proofs.lemmas.Option.{none-some, same_Some, slice_get-get_or, get_or_from_slice_get, slice_get_within}
+use Rattle.std.proofs.lemmas.Option.{none-some, same_Some, get_or_from_slice_get, slice_get_within}
 use Rattle.dg_types.specs.declared.key.Mode.{Mode}
 use Rattle.dg_types.specs.declared.key.Mode.TheVariants as mode
 use Rattle.dg_decl.specs.declared.document.Doc.{Doc}
@@ -14,7 +14,6 @@ use Rattle.dg_decl.specs.Diagnostics.{IsAccepted}
 use Rattle.dg_decl.specs.Graph.{Dependency, deps, nodes, edge_kind}
 use Rattle.dg_decl.specs.Sizes.{is_producer}
 use Rattle.dg_decl.proofs.MemberLemmas.{none_in, in_got, in_map, out_map}
-
 use Rattle.dg_slots.specs.declared.plan.Input.{Input}
 use Rattle.dg_slots.specs.declared.plan.Plan.{Plan}
 use Rattle.dg_slots.specs.declared.plan.Slot.{Slot}
@@ -25,9 +24,8 @@ use Rattle.dg_eval.specs.Meaning.{node_at, node_in, Target as Look, target_of, e
 use Rattle.dg_eval.proofs.AcceptedDepth.{stages_of_accepted}
 use Rattle.dg_eval.proofs.EntryNodes.{node_shallow}
 use Rattle.dg_eval.proofs.InputLemmas.{inputs_are_look_ups, no_input_is_left_out}
-use Rattle.dg_eval.proofs.TargetLemmas.{Shallow, ShallowSlot, none_shallow, direct_shallow}
-use Rattle.dg_requests.specs.declared.context.Target.{Target}
-use Rattle.dg_requests.specs.Contexts.{IsContextOf, IsInputFor, WalksAreShort, as_look, is_producing}
+use Rattle.dg_eval.proofs.TargetLemmas.{Shallow, none_shallow, direct_shallow}
+use Rattle.dg_requests.specs.Contexts.{IsContextOf, IsInputFor, WalksAreShort, is_producing}
 use Rattle.dg_requests.proofs.Behind.{slot_is}
 use Rattle.dg_requests.proofs.ContextLemmas.{slots_are, in_class_is, in_its_class}
 use Rattle.dg_requests.proofs.GivingLemmas.{input_here}
@@ -35,12 +33,11 @@ use Rattle.dg_exec.specs.declared.cells.CellName.{CellName}
 use Rattle.dg_exec.specs.Jobs.{is_producer_at, led_to, reached_by, reached}
 use Rattle.dg_exec.specs.Modes.{is_direct}
 use Rattle.dg_exec.specs.Tables.{as_name, cell_at, has_cell, with_cell, with_cells}
-use Rattle.dg_exec.specs.Walks.{direct_target, is_producing_at, AreDone, Finds, Walked}
+use Rattle.dg_exec.specs.Walks.{direct_target, is_producing_at, AreDone, Walked}
 use Rattle.dg_exec.proofs.CellLists.{among_has, kept_one, out_one, with_more, added_all, nothing_new}
 use Rattle.dg_exec.proofs.CellTables.{producing_is}
 use Rattle.dg_exec.proofs.FitLemmas.{named, in_numbered}
 use Rattle.dg_exec.proofs.FitWalks.{leads_to_slot, node_shallow_at}
-
 
 -- ---- one edge
 
@@ -400,6 +397,12 @@ walked_now doc plan world of t n f d f1 d1 d2 is there w e =
         subst P (sym found)
         (added_all f (map as_name (reached doc enough t.inst n)) (as_name y)
         (in_map as_name (reached doc enough t.inst n) y (subst Q there_now r)))
+
+-- walks are never as long as that
+pub walked_too_far : (doc : Doc) (depth : ℕ) (n : Node) (cells : List Cell) (f d : List CellName)
+    → depth ≡ 0 → WalksAreShort doc depth n → Walked doc cells f d f d
+walked_too_far doc depth n cells f d none short =
+    let lt : 0 < depth = short 0 n refl in absurd (omega (arith, none, lt))
 
 -- ---- from nothing
 

@@ -1,6 +1,6 @@
 -- What the jobs of a document mean, and which cells they use.
-use Rattle.std.specs.Prelude.{◌≡◌, ℕ, zero, suc, ◌-◌, nat_lt, if◌then◌else◌, Bool, true, false, not, List, [], ◌∷◌, ◌++◌, length, map, Option, Some, None, unwrap_or, option_map, option_and_then, option_to_list, is_some, slice_get, Ok}
-use Rattle.std.specs.List.{filter, filter_map, flat_map}
+use Rattle.std.specs.Prelude.{ℕ, zero, suc, ◌-◌, nat_lt, if◌then◌else◌, Bool, false, List, [], ◌∷◌, ◌++◌, length, Option, Some, None, unwrap_or, option_map, option_and_then, option_to_list, slice_get, Ok}
+use Rattle.std.specs.List.{filter_map, flat_map}
 use Rattle.std.specs.Option.{option_map_or}
 use Rattle.dg_decl.specs.declared.document.Doc.{Doc}
 use Rattle.dg_decl.specs.declared.binding.BindRef.TheVariants as binding
@@ -16,8 +16,8 @@ use Rattle.dg_value.specs.declared.value.Kept.{Kept}
 use Rattle.dg_value.specs.declared.value.Kept.TheVariants as kept
 use Rattle.dg_value.specs.declared.value.Reply.TheVariants as reply
 use Rattle.dg_value.specs.declared.value.Value.{Value}
-use Rattle.dg_eval.specs.Bodies.{End, value_end, producer_end}
-use Rattle.dg_eval.specs.Meaning.{node_at, cell_place, member_end, eval, content_of, enough}
+use Rattle.dg_eval.specs.Bodies.{End, producer_end}
+use Rattle.dg_eval.specs.Meaning.{node_at, cell_place, member_end, eval, content_of}
 use Rattle.dg_eval.specs.Runs.{Asked, cell, lazy, Run, asks_of as asks_of_run, as_kept}
 use Rattle.dg_eval.specs.Asks.{CellName, run_of_ask, answer_to, asked_by, as_cell, enough_used, cells}
 use Rattle.dg_exec.specs.declared.result.JobResult.{JobResult}

@@ -1,5 +1,5 @@
 -- The numbers of jobs, by the table of the cells of producers.
-use Rattle.std.specs.Prelude.{◌≡◌, ◌+◌, ℕ, List, length, map, Option, Some, option_map, option_and_then, slice_get, Contains}
+use Rattle.std.specs.Prelude.{◌≡◌, ◌+◌, ℕ, List, length, map, Option, option_map, option_and_then, slice_get, Contains}
 use Rattle.std.specs.List.{position}
 use Rattle.dg_decl.specs.declared.document.Doc.{Doc}
 use Rattle.dg_slots.specs.declared.plan.Plan.{Plan}

@@ -1,5 +1,5 @@
 -- What a walk of direct edges adds to the cells that were found before.
-use Rattle.std.specs.Prelude.{◌≡◌, ℕ, List, map, Option, Some, None, option_map, if◌then◌else◌, Bool, false, slice_get, Contains}
+use Rattle.std.specs.Prelude.{◌≡◌, ℕ, List, map, Option, Some, None, if◌then◌else◌, Bool, false, slice_get, Contains}
 use Rattle.std.specs.Option.{option_map_or}
 use Rattle.dg_decl.specs.declared.document.Doc.{Doc}
 use Rattle.dg_decl.specs.declared.graph.Node.{Node}

@@ -46,11 +46,7 @@ fn producers_of(alloc: Global, plan: &Plan, class: u32) -> Result<Vec<u32>, NoMe
 }
 
 /// The producers of each of so many classes.
-fn producers_by_class(
-    alloc: Global,
-    plan: &Plan,
-    classes: u32,
-) -> Result<Vec<Vec<u32>>, NoMemory>
+fn producers_by_class(alloc: Global, plan: &Plan, classes: u32) -> Result<Vec<Vec<u32>>, NoMemory>
     ensures exact { IfOk result (λ rows. spec.AreRows plan.now.slots
         (map (λ row. row.items) rows.items)) }
 {

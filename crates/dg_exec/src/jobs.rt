@@ -1,6 +1,19 @@
 //! The jobs of a document.
 
-ghost use Rattle.std.specs.Prelude.{◌≡◌, ◌+◌, ◌++◌, length, map, Some, IfOk, OnOk};
+ghost use Rattle.std.specs.Prelude.{
+  ◌≡◌,
+  ◌<◌,
+  ◌^◌,
+  ◌+◌,
+  ◌++◌,
+  length,
+  vec_len,
+  map,
+  Some,
+  All,
+  IfOk,
+  OnOk,
+};
 ghost use Rattle.std.specs.List.{filter_map};
 ghost use Rattle.dg_decl.specs.declared.document.Doc.{Doc};
 ghost use Rattle.dg_decl.specs.declared.graph.Node.{Node};
@@ -46,11 +59,7 @@ fn number(asks: usize, place: usize) -> Result<u32, NoMemory>
 }
 
 /// The number of the job of a cell, where it is among those of producers.
-fn job_of(
-    table: &IndexSet<CellName>,
-    asks: usize,
-    cell: CellName,
-) -> Result<Option<u32>, NoMemory>
+fn job_of(table: &IndexSet<CellName>, asks: usize, cell: CellName) -> Result<Option<u32>, NoMemory>
     ensures exact { IfOk result (λ job. job ≡ numbers.job_in asks table.now.keys cell) }
 {
     match table.get_index_of(&cell) {
@@ -172,17 +181,13 @@ fn add_needed_by_cells(
     Ok(())
 }
 
-/// The jobs of a document, over its world.
-fn jobs_over(
-    alloc: Global,
-    plan: &Plan,
-    world: &World,
-    session: &Session,
-) -> Result<Jobs, NoMemory>
+/// The jobs of a document, over its world. They are fewer than 2^32, as in `number`.
+fn jobs_over(alloc: Global, plan: &Plan, world: &World, session: &Session) -> Result<Jobs, NoMemory>
     ensures exact { IfOk result (λ jobs. (doc : Doc) → IsContextOf doc plan.now world.now
         → session.now ≡ session_of doc
         → (map (λ row. row.items) jobs.inputs.items ≡ spec.inputs_of_jobs doc)
         × (map as_cell jobs.cells.items ≡ spec.producer_cells doc)) }
+    ensures small { IfOk result (λ jobs. vec_len jobs.inputs < 2 ^ 32) }
 {
     let cells = producer_cells(alloc, plan, world)?;
     let table = table_of(alloc, cells.as_slice())?;
@@ -197,20 +202,22 @@ fn jobs_over(
         cells.as_slice(),
         &mut inputs,
     )?;
+    if inputs.len() > u32::MAX as usize {
+        return Err(NoMemory);
+    }
     Ok(Jobs { inputs, cells })
 }
 
 /// The jobs of an accepted document, of which these are the plan, the session and the links.
-pub fn jobs_of(
-    alloc: Global,
-    p: &Plan,
-    s: &Session,
-    links: &[Items<u32>],
-) -> Result<Jobs, NoMemory>
+pub fn jobs_of(alloc: Global, p: &Plan, s: &Session, links: &[Items<u32>]) -> Result<Jobs, NoMemory>
     ensures exact { IfOk result (λ jobs. (doc : Doc) → IsAccepted doc → p.now ≡ plan_of doc
         → s.now ≡ session_of doc → links.now ≡ links_of doc
         → (map (λ row. row.items) jobs.inputs.items ≡ spec.inputs_of_jobs doc)
         × (map as_cell jobs.cells.items ≡ spec.producer_cells doc)) }
+    ensures small { IfOk result (λ jobs. vec_len jobs.inputs < 2 ^ 32) }
+    ensures in_range { IfOk result (λ jobs. (doc : Doc) → IsAccepted doc → p.now ≡ plan_of doc
+        → s.now ≡ session_of doc → links.now ≡ links_of doc
+        → All (λ row. All (λ input. input < vec_len jobs.inputs) row.items) jobs.inputs.items) }
 {
     let world = world_from(alloc, s, links)?;
     jobs_over(alloc, p, &world, s)

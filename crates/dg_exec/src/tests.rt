@@ -33,7 +33,11 @@ fn plan(alloc: Global) -> Result<Plan, NoMemory> {
     let produced = Mode::Produced;
     let mut slots = Items::new(alloc);
     slots.push(slot(alloc, CellKind::Plain, &[input(instance, 1)])?)?;
-    let first = [input(Mode::Provider, 4), input(produced, 3), input(instance, 2)];
+    let first = [
+        input(Mode::Provider, 4),
+        input(produced, 3),
+        input(instance, 2),
+    ];
     slots.push(slot(alloc, CellKind::Plain, &first)?)?;
     slots.push(slot(alloc, CellKind::Plain, &[input(instance, 3)])?)?;
     slots.push(slot(alloc, CellKind::Producing, &[input(instance, 4)])?)?;
@@ -71,10 +75,10 @@ fn jobs_need_the_first_producers_on_direct_walks(rt: HostRuntime) -> Result<(), 
     assert_eq!(rt; jobs.cells.len(), 4);
     assert!(rt; jobs.cells[2] == CellName { inst: 1, slot: 3 });
     assert_eq!(rt; jobs.inputs.len(), 6);
-    assert_eq!(rt; jobs.inputs[0].as_slice(), &[4]);
-    assert_eq!(rt; jobs.inputs[1].as_slice(), &[4]);
-    assert_eq!(rt; jobs.inputs[2].as_slice(), &[3]);
+    assert_eq!(rt; jobs.inputs[0].as_slice(), [4].as_slice());
+    assert_eq!(rt; jobs.inputs[1].as_slice(), [4].as_slice());
+    assert_eq!(rt; jobs.inputs[2].as_slice(), [3].as_slice());
     assert!(rt; jobs.inputs[3].is_empty());
-    assert_eq!(rt; jobs.inputs[4].as_slice(), &[5]);
+    assert_eq!(rt; jobs.inputs[4].as_slice(), [5].as_slice());
     Ok(())
 }

@@ -1,7 +1,6 @@
 use Rattle.std.proofs.Common.{◌++◌, ℕ, List, Vec, length, map, refl, ap, sym, ◌∙◌}
 use Rattle.std.specs.Global.{Global}
 use Rattle.std.proofs.lemmas.Option.{slice_get_read}
-use Rattle.dg_exec.specs.declared.cells.CellName.{CellName}
 use Rattle.dg_exec.specs.Tables.{cell_at}
 use Rattle.dg_exec.proofs.CellTables.{row_found}
 use Rattle.dg_exec.proofs.cells.add_cells_of.Goals as goal

@@ -1,7 +1,5 @@
-use Rattle.std.proofs.Common.{◌≡◌, ◌+◌, ◌++◌, [], ◌∷◌, ℕ, List, Vec, length, map, sym, ap, subst, ◌∙◌, arith}
+use Rattle.std.proofs.Common.{ℕ, Vec}
 use Rattle.std.specs.Global.{Global}
-use Rattle.std.proofs.lemmas.List.{map-append, length-map}
-use Rattle.dg_exec.specs.Tables.{producers_of, AreRows}
 use Rattle.dg_exec.proofs.CellTables.{rows_pushed}
 use Rattle.dg_exec.proofs.cells.producers_by_class.Goals as goal
 

@@ -1,9 +1,10 @@
-use Rattle.std.proofs.Common.{◌≡◌, ◌<◌, ℕ, suc, ◌-◌, Some, option_map, sym, ap, subst, ◌∙◌, refl, arith}
+use Rattle.std.proofs.Common.{◌≡◌, ℕ, suc, ◌-◌, option_map, sym, ap, subst, ◌∙◌, arith}
 use Rattle.std.proofs.lemmas.Option.{none-some}
-use Rattle.dg_decl.specs.declared.graph.Node.{Node}
 use Rattle.dg_slots.specs.Plans.{slot_of}
 use Rattle.dg_requests.specs.Contexts.{WalksAreShort, as_look}
-use Rattle.dg_exec.proofs.ReachLemmas.{edge_is, input_at, walked_none, walked_edge, walked_nowhere, walked_next, walked_all, walked_producer, walked_before, walked_now}
+use Rattle.dg_eval.specs.Meaning.{enough}
+use Rattle.dg_exec.specs.Jobs.{led_to, reached}
+use Rattle.dg_exec.proofs.ReachLemmas.{edge_is, input_at, walked_none, walked_edge, walked_nowhere, walked_next, walked_all, walked_producer, walked_before, walked_now, walked_too_far}
 use Rattle.dg_exec.proofs.walks.+walks.Goals as goal
 
 pub follow-returns-then-is_producing : goal.follow-returns-then-is_producing
@@ -17,7 +18,9 @@ follow-returns-then-is_producing t c = record {
 pub follow-returns-then-depth-eq0 : goal.follow-returns-then-depth-eq0
 follow-returns-then-depth-eq0 t c = record {
   exact = λ doc of n is short.
-      (let lt : 0 < c.args.depth = short 0 n refl in absurd (omega (arith, c.if-depth-eq0.true, lt)));
+      walked_too_far doc c.args.depth n
+      (led_to doc (reached doc enough) (as_look c.args.at))
+      c.args.found.now.keys c.args.done.now.keys (omega (arith, c.if-depth-eq0.true)) short;
 }
 
 pub follow-returns-then-has : goal.follow-returns-then-has

@@ -1,4 +1,4 @@
-use Rattle.std.proofs.Common.{◌≡◌, ◌+◌, ◌*◌, ℕ, suc, take, flat_map, Some}
+use Rattle.std.proofs.Common.{◌≡◌, ◌+◌, ◌*◌, suc, take, flat_map, Some}
 use Rattle.dg_decl.specs.declared.document.Doc.{Doc}
 use Rattle.dg_decl.specs.declared.graph.Node.{Node}
 use Rattle.dg_decl.specs.Graph.{deps}
