@@ -1,6 +1,6 @@
 //! What an ask comes to.
 
-ghost use Rattle.std.specs.Prelude.{◌≡◌, suc, Some, IfOk, Contains};
+ghost use Rattle.std.specs.Prelude.{◌≡◌, suc, Some, IfOk};
 ghost use Rattle.std.specs.Option.{option_copied};
 ghost use Rattle.dg_value.specs.declared.place.PlaceStep.TheVariants as step_of;
 ghost use Rattle.dg_value.specs.declared.value.Value.{out-Value};
@@ -284,7 +284,6 @@ pub fn eval_ask<C: Cells>(
     cells: &mut C,
 ) -> Result<Reply, NoMemory>
     requires fit { IsFit (C.scope cells.old) plan.now world.now }
-    requires ask { Contains (spec.numbered_asks (C.scope cells.old).doc) (number, ask.now) }
     requires can { CanRun (C.scope cells.old)
         (spec.run_of_ask (C.scope cells.old).doc number ask.now) }
     ensures exact { IfOk result
