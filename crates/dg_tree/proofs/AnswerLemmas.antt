@@ -9,7 +9,7 @@ use Rattle.dg_value.specs.declared.value.Kept.{Kept}
 use Rattle.dg_eval.specs.Runs.{Asked}
 use Rattle.dg_eval.specs.Asks.{asked_by, used}
 use Rattle.dg_promises.specs.Uses.{used_by_asks}
-use Rattle.dg_requests.specs.Scopes.{Scope, IsContent, Uses, AllUsed, Exactly, Answers}
+use Rattle.dg_requests.specs.Scopes.{Scope, IsContent, Uses, AllUsed, Exactly, Answers, IsMadeOnce}
 use Rattle.dg_tree.specs.Tables.{LooksUp}
 use Rattle.dg_tree.proofs.NameLemmas.{contains_head, contains_tail, none_contained, only_one}
 
@@ -54,16 +54,16 @@ only_itself doc x = record {
 
 -- ---- look-ups
 
-pub looked_none : (doc : Doc) (x : Asked) (stored old new : List Asked) (o : Option Kept)
-    → o ≡ None → LooksUp doc x stored old new (Ok o) → new ≡ old
-looked_none doc x stored old new None e h = h.1
-looked_none doc x stored old new (Some kept) e h = cc
+pub looked_none : (doc : Doc) (x : Asked) (old new : List Asked) (o : Option Kept) → o ≡ None
+    → LooksUp doc x old new (Ok o) → (Contains old x → ⊥) × (new ≡ old)
+looked_none doc x old new None e h = h
+looked_none doc x old new (Some kept) e h = cc
 
-pub looked_some : (doc : Doc) (x : Asked) (stored old new : List Asked) (o : Option Kept)
-    (kept : Kept) → o ≡ Some kept → LooksUp doc x stored old new (Ok o)
-    → LooksUp doc x stored old new (Ok (Some kept))
-looked_some doc x stored old new o kept e h =
-    subst (λ (p : Option Kept). LooksUp doc x stored old new (Ok p)) e h
+pub looked_some : (doc : Doc) (x : Asked) (old new : List Asked) (o : Option Kept)
+    (kept : Kept) → o ≡ Some kept → LooksUp doc x old new (Ok o)
+    → LooksUp doc x old new (Ok (Some kept))
+looked_some doc x old new o kept e h =
+    subst (λ (p : Option Kept). LooksUp doc x old new (Ok p)) e h
 
 -- ---- answers
 
@@ -143,3 +143,20 @@ pub made_closed : (doc : Doc) (x : Asked) (start new : List Asked) (kept : Kept)
 made_closed doc x start new kept made y c =
     subst (λ (l : List Asked). Contains l y) (sym made.asked.1)
     (Contains-append_right start made.asked.0 y (made.asked.2.each y c))
+
+-- ---- what is held isn't made again
+
+-- of a call that lacks memory nothing is said
+pub stopped_once : (x : Asked) (old new : List Asked) (r : Result Kept NoMemory) (e : NoMemory)
+    → r ≡ Err e → IsMadeOnce x (Some old) (Some new) r
+stopped_once x old new r e is = subst (IsMadeOnce x (Some old) (Some new)) (sym is) tt
+
+-- what is held is asked for alone
+pub held_once : (x : Asked) (old new : List Asked) (kept : Kept) → new ≡ old ++ x ∷ []
+    → IsMadeOnce x (Some old) (Some new) (Ok kept)
+held_once x old new kept is asked = ap Some is
+
+-- what is made wasn't asked for before
+pub new_once : (x : Asked) (old new : List Asked) (kept : Kept) → (Contains old x → ⊥)
+    → IsMadeOnce x (Some old) (Some new) (Ok kept)
+new_once x old new kept unasked asked = absurd (unasked asked)

@@ -590,7 +590,7 @@ seen_names : (cs : Cells) (ls : Lazies) (n m : ℕ) (notes : List Noted) (t : St
 seen_names cs ls n m notes t is =
     ap names (sym is) ∙ ap names_of (contents_are cs ls n m notes) ∙ all_names cs ls
 
-pub no_cell : (cs : Cells) (ls : Lazies) (n m : ℕ) (notes : List Noted) (i k : ℕ) (t : Stored)
+no_cell : (cs : Cells) (ls : Lazies) (n m : ℕ) (notes : List Noted) (i k : ℕ) (t : Stored)
     → stored_in cs ls n m notes ≡ t
     → None ≡ lookup (same_cell (record { inst = i; slot = k })) cs → Contains (names t) (cell i k)
     → ⊥
@@ -602,7 +602,7 @@ no_cell cs ls n m notes i k t is none c =
       | inr b ↦ cell_not_lazy i k ls b
     ]
 
-pub no_lazy : (cs : Cells) (ls : Lazies) (n m : ℕ) (notes : List Noted) (key : LazyKey) (t : Stored)
+no_lazy : (cs : Cells) (ls : Lazies) (n m : ℕ) (notes : List Noted) (key : LazyKey) (t : Stored)
     → stored_in cs ls n m notes ≡ t → None ≡ lookup (same_lazy key) ls
     → Contains (names t) (lazy_name key) → ⊥
 no_lazy cs ls n m notes key t is none c =
@@ -611,3 +611,18 @@ no_lazy cs ls n m notes key t is none c =
       | inl a ↦ cells_only (lazy_name key) cs tt a
       | inr b ↦ none_named same_lazy lazy_name lazies_same lazies_told ls key (sym none) b
     ]
+
+-- what isn't stored wasn't asked for
+pub cell_unasked : (doc : Doc) (cs : Cells) (ls : Lazies) (n m : ℕ) (notes : List Noted) (i k : ℕ)
+    (t : Stored) → stored_in cs ls n m notes ≡ t → IsStore doc cs ls n m notes
+    → None ≡ lookup (same_cell (record { inst = i; slot = k })) cs → Contains t.asked (cell i k) → ⊥
+cell_unasked doc cs ls n m notes i k t is store none c =
+    no_cell cs ls n m notes i k t is none
+    ((sound_seen doc cs ls n m notes t store is).asked_stored (cell i k) c)
+
+pub lazy_unasked : (doc : Doc) (cs : Cells) (ls : Lazies) (n m : ℕ) (notes : List Noted)
+    (key : LazyKey) (t : Stored) → stored_in cs ls n m notes ≡ t → IsStore doc cs ls n m notes
+    → None ≡ lookup (same_lazy key) ls → Contains t.asked (lazy_name key) → ⊥
+lazy_unasked doc cs ls n m notes key t is store none c =
+    no_lazy cs ls n m notes key t is none
+    ((sound_seen doc cs ls n m notes t store is).asked_stored (lazy_name key) c)

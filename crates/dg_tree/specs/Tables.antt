@@ -73,10 +73,9 @@ pub record IsStore (doc : Doc) (cs : Cells) (ls : Lazies) (n m : ℕ) (notes : L
 
 -- ---- steps
 
--- A cell or Lazy was looked up among those that are stored: where it is held it is asked for, and
--- its content is given.
-abbrev pub LooksUp : Doc → Asked → List Asked → List Asked → List Asked
-    → Result (Option Kept) NoMemory → Type 0
-LooksUp doc x stored old new (Ok (Some kept)) = IsContent doc x kept × (new ≡ old ++ x ∷ [])
-LooksUp doc x stored old new (Ok None) = (Contains stored x → ⊥) × (new ≡ old)
-LooksUp doc x stored old new (Err e) = new ≡ old
+-- A cell or Lazy was looked up. Where it is held it is asked for, and its content is given; where it
+-- isn't, it wasn't asked for before.
+abbrev pub LooksUp : Doc → Asked → List Asked → List Asked → Result (Option Kept) NoMemory → Type 0
+LooksUp doc x old new (Ok (Some kept)) = IsContent doc x kept × (new ≡ old ++ x ∷ [])
+LooksUp doc x old new (Ok None) = (Contains old x → ⊥) × (new ≡ old)
+LooksUp doc x old new (Err e) = new ≡ old

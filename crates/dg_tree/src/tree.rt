@@ -9,7 +9,7 @@ ghost use Rattle.dg_eval.specs.Asks.{asked_by};
 ghost use Rattle.dg_eval.specs.World.{chain_of_inst, world_of};
 ghost use Rattle.dg_promises.specs.Uses.{used_by_asks};
 ghost use Rattle.dg_requests.specs.Scopes.{IsContent};
-ghost use Rattle.dg_tree.specs.Stores.{names, nothing, settled, IsSound};
+ghost use Rattle.dg_tree.specs.Stores.{nothing, settled, IsSound};
 ghost use Rattle.dg_tree.specs.Tables.{LooksUp};
 
 use crate::keys::{CellKey, LazyKey, Noted};
@@ -116,8 +116,7 @@ impl<D: OfDoc> Tree<D> {
 
     /// The content of a cell, where it is held: it is asked for then.
     fn asked_cell(&mut self, inst: u32, slot: u32) -> Result<Option<Kept>, NoMemory>
-        ensures exact { LooksUp D.document (cell inst slot) (names self.old)
-            self.old.asked self.new.asked result }
+        ensures exact { LooksUp D.document (cell inst slot) self.old.asked self.new.asked result }
     {
         let Some(kept) = self.cells.get(&CellKey { inst, slot }) else {
             return Ok(None);
@@ -130,7 +129,7 @@ impl<D: OfDoc> Tree<D> {
     /// The content of a Lazy, where it is held: it is asked for then.
     fn asked_lazy(&mut self, key: &LazyKey) -> Result<Option<Kept>, NoMemory>
         ensures exact { LooksUp D.document (lazy_at key.now.inst key.now.slot key.now.place)
-            (names self.old) self.old.asked self.new.asked result }
+            self.old.asked self.new.asked result }
     {
         let Some((index, _, kept)) = self.lazies.get_full(key) else {
             return Ok(None);

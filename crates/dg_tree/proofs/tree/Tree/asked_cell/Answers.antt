@@ -1,5 +1,5 @@
 use Rattle.std.proofs.Common.{refl}
-use Rattle.dg_tree.proofs.StoreLemmas.{cell_asked, no_cell}
+use Rattle.dg_tree.proofs.StoreLemmas.{cell_asked, cell_unasked}
 use Rattle.dg_tree.proofs.tree.Tree.asked_cell.Goals as goal
 
 pub invariant_of-self-2 : goal.invariant_of-self-2
@@ -25,9 +25,9 @@ returns-in_default g c =
     let t = c.self.inside in
     record {
       exact = (
-        no_cell t.cells.entries t.lazies.entries t.settled_cells t.settled_lazies t.notes.items
-            c.args.inst
-            c.args.slot c.args.self.now c.self.view_is c.in_default.ensures.value,
+        cell_unasked g.D.OfDoc.document t.cells.entries t.lazies.entries t.settled_cells
+            t.settled_lazies t.notes.items c.args.inst c.args.slot c.args.self.now c.self.view_is
+            c.self.invariant.0 c.in_default.ensures.value,
         refl,
       );
     }

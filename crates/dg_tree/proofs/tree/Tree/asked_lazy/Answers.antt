@@ -1,5 +1,5 @@
 use Rattle.std.proofs.Common.{refl}
-use Rattle.dg_tree.proofs.StoreLemmas.{lazy_asked, no_lazy}
+use Rattle.dg_tree.proofs.StoreLemmas.{lazy_asked, lazy_unasked}
 use Rattle.dg_tree.proofs.tree.Tree.asked_lazy.Goals as goal
 
 pub invariant_of-self-2 : goal.invariant_of-self-2
@@ -27,8 +27,9 @@ returns-in_default g c =
     let t = c.self.inside in
     record {
       exact = (
-        no_lazy t.cells.entries t.lazies.entries t.settled_cells t.settled_lazies t.notes.items
-            c.args.key.now c.args.self.now c.self.view_is c.in_default.ensures.value,
+        lazy_unasked g.D.OfDoc.document t.cells.entries t.lazies.entries t.settled_cells
+            t.settled_lazies t.notes.items c.args.key.now c.args.self.now c.self.view_is
+            c.self.invariant.0 c.in_default.ensures.value,
         refl,
       );
     }

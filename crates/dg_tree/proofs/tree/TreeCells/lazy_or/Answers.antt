@@ -6,8 +6,7 @@ use Rattle.dg_value.specs.declared.place.Place.{Place}
 use Rattle.dg_eval.specs.Runs.{Asked, lazy}
 use Rattle.dg_eval.specs.Asks.{asked_by}
 use Rattle.dg_tree.specs.Tables.{LooksUp}
-use Rattle.dg_tree.specs.Stores.{names}
-use Rattle.dg_tree.proofs.AnswerLemmas.{Called, looked_none, looked_some, called_again, called_stopped, called_in_vain, called_made, made_closed}
+use Rattle.dg_tree.proofs.AnswerLemmas.{Called, looked_none, looked_some, called_again, called_stopped, called_in_vain, called_made, made_closed, stopped_once, held_once, new_once}
 use Rattle.dg_tree.proofs.tree.TreeCells.lazy_or.Goals as goal
 
 pub returns-in_err-kept-in-None : goal.returns-in_err-kept-in-None
@@ -17,9 +16,9 @@ returns-in_err-kept-in-None g c =
     let start = c.asked_lazy.new.self.asked in
     let at = c.in_ok-copy.ensures.exact in
     let looked = subst (λ (p : Place). LooksUp doc (lazy c.args.inst c.args.slot p)
-    (names c.args.self.now) c.args.self.now.asked start (Ok c.in_ok-kept.field-0)) at
+    c.args.self.now.asked start (Ok c.in_ok-kept.field-0)) at
     c.in_ok-kept.ensures.exact in
-    let first = looked_none doc x (names c.args.self.now) c.args.self.now.asked start
+    let first = looked_none doc x c.args.self.now.asked start
     c.in_ok-kept.field-0 c.in-None.is
     looked in
     let made = c.requires.gives c.asked_lazy.new.self c.build.new.cells
@@ -30,7 +29,9 @@ returns-in_err-kept-in-None g c =
       exact = subst (λ (r : Result Kept NoMemory). Called doc x (x ∷ []) c.args.self.now.asked
           c.build.new.cells.asked r) (sym p.1)
           (called_stopped doc x c.args.self.now.asked start c.build.new.cells.asked
-          c.in_err-kept-in-None.field-0.0 p.0 first made);
+          c.in_err-kept-in-None.field-0.0 p.0 first.1 made);
+      once = stopped_once x c.args.self.now.asked c.build.new.cells.asked
+          c.from_residual-in_err-kept-in-None.result p.0 p.1;
     }
 
 pub keep_lazy-requires-clause-closed : goal.keep_lazy-requires-clause-closed
@@ -51,9 +52,9 @@ returns-in_err-keep_lazy-in-None g c =
     let start = c.asked_lazy.new.self.asked in
     let at = c.in_ok-copy.ensures.exact in
     let looked = subst (λ (p : Place). LooksUp doc (lazy c.args.inst c.args.slot p)
-    (names c.args.self.now) c.args.self.now.asked start (Ok c.in_ok-kept.field-0)) at
+    c.args.self.now.asked start (Ok c.in_ok-kept.field-0)) at
     c.in_ok-kept.ensures.exact in
-    let first = looked_none doc x (names c.args.self.now) c.args.self.now.asked start
+    let first = looked_none doc x c.args.self.now.asked start
     c.in_ok-kept.field-0 c.in-None.is
     looked in
     let made = c.requires.gives c.asked_lazy.new.self c.build.new.cells
@@ -64,8 +65,10 @@ returns-in_err-keep_lazy-in-None g c =
       exact = subst (λ (r : Result Kept NoMemory). Called doc x (x ∷ []) c.args.self.now.asked
           c.keep_lazy.new.self.asked r) (sym p.1)
           (called_in_vain doc x c.args.self.now.asked start c.build.new.cells.asked
-          c.keep_lazy.new.self.asked c.in_ok-kept-in-None.kept p.0 first made
+          c.keep_lazy.new.self.asked c.in_ok-kept-in-None.kept p.0 first.1 made
           c.in_err-keep_lazy-in-None.ensures.kept);
+      once = stopped_once x c.args.self.now.asked c.keep_lazy.new.self.asked
+          c.from_residual-in_err-keep_lazy-in-None.result p.0 p.1;
     }
 
 pub returns-in-Some : goal.returns-in-Some
@@ -73,15 +76,16 @@ returns-in-Some g c =
     let doc = g.D.OfDoc.document in
     let x = lazy c.args.inst c.args.slot c.args.place.now in
     let looked = subst (λ (p : Place). LooksUp doc (lazy c.args.inst c.args.slot p)
-    (names c.args.self.now) c.args.self.now.asked c.asked_lazy.new.self.asked (Ok
+    c.args.self.now.asked c.asked_lazy.new.self.asked (Ok
     c.in_ok-kept.field-0))
     c.in_ok-copy.ensures.exact c.in_ok-kept.ensures.exact in
-    let h = looked_some doc x (names c.args.self.now) c.args.self.now.asked
+    let h = looked_some doc x c.args.self.now.asked
     c.asked_lazy.new.self.asked c.in_ok-kept.field-0
     c.in-Some.kept c.in-Some.is looked in
     record {
       exact = called_again doc x c.args.self.now.asked c.asked_lazy.new.self.asked c.in-Some.kept
           h.0 h.1;
+      once = held_once x c.args.self.now.asked c.asked_lazy.new.self.asked c.in-Some.kept h.1;
     }
 
 pub returns-in_ok-keep_lazy-in-None : goal.returns-in_ok-keep_lazy-in-None
@@ -91,9 +95,9 @@ returns-in_ok-keep_lazy-in-None g c =
     let start = c.asked_lazy.new.self.asked in
     let at = c.in_ok-copy.ensures.exact in
     let looked = subst (λ (p : Place). LooksUp doc (lazy c.args.inst c.args.slot p)
-    (names c.args.self.now) c.args.self.now.asked start (Ok c.in_ok-kept.field-0)) at
+    c.args.self.now.asked start (Ok c.in_ok-kept.field-0)) at
     c.in_ok-kept.ensures.exact in
-    let first = looked_none doc x (names c.args.self.now) c.args.self.now.asked start
+    let first = looked_none doc x c.args.self.now.asked start
     c.in_ok-kept.field-0 c.in-None.is
     looked in
     let made = c.requires.gives c.asked_lazy.new.self c.build.new.cells
@@ -101,6 +105,8 @@ returns-in_ok-keep_lazy-in-None g c =
     record {
       exact = called_made doc x (lazy c.args.inst c.args.slot c.in_ok-copy.field-0)
           c.args.self.now.asked start c.build.new.cells.asked
-          c.keep_lazy.new.self.asked c.in_ok-kept-in-None.kept first made
+          c.keep_lazy.new.self.asked c.in_ok-kept-in-None.kept first.1 made
           c.in_ok-keep_lazy-in-None.ensures.exact (ap (lazy c.args.inst c.args.slot) at);
+      once = new_once x c.args.self.now.asked c.keep_lazy.new.self.asked c.in_ok-kept-in-None.kept
+          first.0;
     }
