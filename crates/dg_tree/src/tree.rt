@@ -195,7 +195,7 @@ impl<D: OfDoc> Cells for Tree<D> {
         build: B,
     ) -> Result<Kept, NoMemory> {
         match self.asked_cell(inst, slot)? {
-            Some(kept) => Ok(kept),
+            Some(held) => Ok(held),
             None => {
                 let kept = build.build(self)?;
                 self.keep_cell(inst, slot, &kept)?;

@@ -64,11 +64,11 @@ returns-in-Some g c =
     let x = cell c.args.inst c.args.slot in
     let h = looked_some doc x c.args.self.now.asked
     c.asked_cell.new.self.asked c.in_ok-kept.field-0
-    c.in-Some.kept c.in-Some.is c.in_ok-kept.ensures.exact in
+    c.in-Some.held c.in-Some.is c.in_ok-kept.ensures.exact in
     record {
-      exact = called_again doc x c.args.self.now.asked c.asked_cell.new.self.asked c.in-Some.kept
+      exact = called_again doc x c.args.self.now.asked c.asked_cell.new.self.asked c.in-Some.held
           h.0 h.1;
-      once = held_once x c.args.self.now.asked c.asked_cell.new.self.asked c.in-Some.kept h.1;
+      once = held_once x c.args.self.now.asked c.asked_cell.new.self.asked c.in-Some.held h.1;
     }
 
 pub returns-in_ok-keep_cell-in-None : goal.returns-in_ok-keep_cell-in-None
