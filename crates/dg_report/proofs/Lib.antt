@@ -1,3 +1,4 @@
+pub mod TakenLemmas
 pub mod HeldLemmas
 pub mod OutputLemmas
 pub mod PlaceLemmas

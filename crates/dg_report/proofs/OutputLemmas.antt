@@ -7,10 +7,11 @@ use Rattle.dg_decl.specs.declared.document.Doc.{Doc}
 use Rattle.dg_decl.specs.declared.item.Param.{Param}
 use Rattle.dg_value.specs.declared.place.Place.{Place}
 use Rattle.dg_eval.specs.Report.{Printing, Printed, as_it_is, behind, between, listed, field_text, fields_text, entry_text, object_text, seen_at, value_class_name, value_fields}
+use Rattle.dg_report.proofs.TakenLemmas.{taken_none, taken_both}
 use Rattle.dg_report.specs.Output.{Output, followed, with_text, with_members, with_set, with_map, with_entry, is_new, noted, with_number, with_fields, with_object}
 
-abbrev output : Bytes → List Place → List Place → Output
-output t s b = record { text = t; seen = s; before = b }
+abbrev output : Bytes → List Place → List Place → Option ℕ → Output
+output t s b l = record { text = t; seen = s; before = b; limit = l }
 
 -- ---- one behind another
 
@@ -23,10 +24,10 @@ pub followed_behind : (o : Output) (p q : Printing)
 followed_behind o p q =
     let x : Printed = p o.seen in
     let y : Printed = q x.seen in
-    λ i. output (sym (append_assoc o.text x.text y.text) i) y.seen o.before
+    λ i. output (sym (taken_both o.limit o.text x.text y.text) i) y.seen o.before o.limit
 
 pub followed_none : (o : Output) → followed o (as_it_is []) ≡ o
-followed_none o = λ i. output (append-nil o.text i) o.seen o.before
+followed_none o = λ i. output (taken_none o.limit o.text i) o.seen o.before o.limit
 
 pub followed_between : (o : Output) (front : Bytes) (p : Printing) (back : Bytes)
     → followed o (between front p back) ≡ with_text (followed (with_text o front) p) back
@@ -34,6 +35,22 @@ unfolding with_text
 followed_between o front p back =
     followed_behind o (as_it_is front) (behind p (as_it_is back))
     ∙ followed_behind (followed o (as_it_is front)) p (as_it_is back)
+
+pub two_texts : (o : Output) (s t : Bytes) → with_text (with_text o s) t ≡ with_text o (s ++ t)
+unfolding with_text
+two_texts o s t =
+    λ i. output (taken_both o.limit o.text s t i) o.seen o.before o.limit
+
+pub three_texts : (o : Output) (s t u : Bytes)
+    → with_text (with_text (with_text o s) t) u ≡ with_text o (s ++ (t ++ u))
+three_texts o s t u = two_texts (with_text o s) t u ∙ two_texts o s (t ++ u)
+
+-- a text in two parts before what is printed
+behind_two : (o : Output) (s t : Bytes) (p : Printing)
+    → followed (with_text (with_text o s) t) p ≡ followed o (behind (as_it_is (s ++ t)) p)
+behind_two o s t p =
+    ap (λ (n : Output). followed n p) (two_texts o s t ∙ sym (followed_text o (s ++ t)))
+    ∙ sym (followed_behind o (as_it_is (s ++ t)) p)
 
 -- ---- members
 
@@ -71,14 +88,9 @@ entry_followed : {V : Type 0} (f : V → Printing) (g : Output → V → Output)
     → ((o : Output) (v : V) → g o v ≡ followed o (f v))
     → (o : Output) (e : MapKeyVal × V)
     → with_entry g o e ≡ followed o (entry_text (e.0, f e.1))
-unfolding with_text
 entry_followed f g same o e =
     same (with_text (with_text o (map_key_text e.0)) (codes ":")) e.1
-    ∙ (λ i. output (joined i) (f e.1 o.seen).seen o.before)
-  where
-    joined : ((o.text ++ map_key_text e.0) ++ codes ":") ++ (f e.1 o.seen).text
-        ≡ o.text ++ ((map_key_text e.0 ++ codes ":") ++ (f e.1 o.seen).text)
-    joined = simp append_assoc refl
+    ∙ behind_two o (map_key_text e.0) (codes ":") (f e.1)
 
 map_entries : {V : Type 0} (f : V → Printing) (es : List (MapKeyVal × V))
     → map entry_text (map (λ e. (e.0, f e.1)) es) ≡ map (λ e. entry_text (e.0, f e.1)) es
@@ -117,14 +129,8 @@ field_followed : {V : Type 0} (f : V → Printing) (g : Output → V → Output)
     → ((o : Output) (v : V) → g o v ≡ followed o (f v))
     → (o : Output) (p : Param) (v : V)
     → g (with_text (with_text o p.name) (codes "=")) v ≡ followed o (field_text p (f v))
-unfolding with_text
 field_followed f g same o p v =
-    same (with_text (with_text o p.name) (codes "=")) v
-    ∙ (λ i. output (joined i) (f v o.seen).seen o.before)
-  where
-    joined : ((o.text ++ p.name) ++ codes "=") ++ (f v o.seen).text
-        ≡ o.text ++ ((p.name ++ codes "=") ++ (f v o.seen).text)
-    joined = simp append_assoc refl
+    same (with_text (with_text o p.name) (codes "=")) v ∙ behind_two o p.name (codes "=") (f v)
 
 more_fields : {V : Type 0} (f : V → Printing) (g : Output → V → Output)
     → ((o : Output) (v : V) → g o v ≡ followed o (f v))
@@ -162,34 +168,18 @@ fields_listed f g same (p ∷ ps) o (v ∷ vs) =
 
 object_new : (fields : Output → Output) (p : Printing)
     → ((o : Output) → fields o ≡ followed o p)
-    → (name : Bytes) (number : Bytes) (ident : Place) (o : Output)
-    → with_text (fields (with_text (with_text (noted (with_text (with_text o name) (codes "#")) ident)
-    number) (codes "{"))) (codes "}")
-    ≡ output (o.text ++ (between ((name ++ (codes "#" ++ number)) ++ codes "{") p (codes "}")
-    (o.seen ++ ident ∷ [])).text)
-    (between ((name ++ (codes "#" ++ number)) ++ codes "{") p (codes "}")
-    (o.seen ++ ident ∷ [])).seen o.before
-unfolding with_text
-object_new fields p same name number ident o =
+    → (name : Bytes) (number : Bytes) (o : Output)
+    → with_text (fields (with_text (with_text (with_text (with_text o name) (codes "#")) number)
+    (codes "{"))) (codes "}")
+    ≡ followed o (between ((name ++ (codes "#" ++ number)) ++ codes "{") p (codes "}"))
+object_new fields p same name number o =
+    let front : Output = with_text (with_text (with_text o name) (codes "#")) number in
     ap (λ (n : Output). with_text n (codes "}"))
-    (same (with_text (with_text (noted (with_text (with_text o name) (codes "#")) ident) number)
-    (codes "{")))
-    ∙ (λ i. output (joined i) (p (o.seen ++ ident ∷ [])).seen o.before)
-  where
-    joined : (((((o.text ++ name) ++ codes "#") ++ number) ++ codes "{")
-        ++ (p (o.seen ++ ident ∷ [])).text) ++ codes "}"
-        ≡ o.text ++ (((name ++ (codes "#" ++ number)) ++ codes "{")
-        ++ ((p (o.seen ++ ident ∷ [])).text ++ codes "}"))
-    joined = simp append_assoc refl
-
-object_known : (name : Bytes) (number : Bytes) (o : Output)
-    → with_text (with_text (with_text o name) (codes "#")) number
-    ≡ output (o.text ++ (name ++ (codes "#" ++ number))) o.seen o.before
-unfolding with_text
-object_known name number o = λ i. output (joined i) o.seen o.before
-  where
-    joined : ((o.text ++ name) ++ codes "#") ++ number ≡ o.text ++ (name ++ (codes "#" ++ number))
-    joined = simp append_assoc refl
+    (same (with_text front (codes "{"))
+    ∙ ap (λ (n : Output). followed n p)
+    (ap (λ (n : Output). with_text n (codes "{")) (three_texts o name (codes "#") number)
+    ∙ two_texts o (name ++ (codes "#" ++ number)) (codes "{")))
+    ∙ sym (followed_between o ((name ++ (codes "#" ++ number)) ++ codes "{") p (codes "}"))
 
 pub object_followed : {V : Type 0} (f : V → Printing) (g : Output → V → Output)
     → ((o : Output) (v : V) → g o v ≡ followed o (f v))
@@ -206,8 +196,9 @@ object_followed f g same doc class ident vs o = by (seen_at ident o.seen) refl
         rw e (sym (object_new (λ n. with_fields g (value_fields doc class) 0 n vs)
         (listed (fields_text (value_fields doc class) (map f vs)))
         (λ n. fields_listed f g same (value_fields doc class) n vs)
-        (value_class_name doc class) (decimal (suc (length o.seen))) ident o))
-    by (Some k) e = rw e (sym (object_known (value_class_name doc class) (decimal (suc k)) o))
+        (value_class_name doc class) (decimal (suc (length o.seen))) (noted o ident)))
+    by (Some k) e =
+        rw e (sym (three_texts o (value_class_name doc class) (codes "#") (decimal (suc k))))
 
 pub object_entered : (doc : Doc) (fields : Output → Output) (class : ℕ) (ident : Place)
     (name : Bytes) (old a b c d e new : Output) (is : Bool)

@@ -17,8 +17,8 @@ use Rattle.dg_value.specs.Places.{same_root, same_step, same_steps, same_place}
 use Rattle.dg_eval.specs.Report.{seen_at, print_limit, cut}
 use Rattle.dg_report.specs.Output.{Output, noted, with_cut}
 
-abbrev output : Bytes → List Place → List Place → Output
-output t s b = record { text = t; seen = s; before = b }
+abbrev output : Bytes → List Place → List Place → Option ℕ → Output
+output t s b l = record { text = t; seen = s; before = b; limit = l }
 
 -- ---- the two tests of places agree
 
@@ -108,18 +108,22 @@ pub take_all : {A : Type 0} (xs : List A) → take (length xs) xs ≡ xs
 take_all [] = refl
 take_all (x ∷ xs) = ap (λ (l : List _). x ∷ l) (take_all xs)
 
-pub noted_made : (text : Bytes) (seen new : List Place) (n : ℕ) (p : Place) (o : Output)
-    → record { text = text; seen = seen; before = take n seen } ≡ o → n ≤ length seen
-    → new ≡ seen ++ p ∷ [] → record { text = text; seen = new; before = take n new } ≡ noted o p
-noted_made text seen new n p o is within e =
-    ap (λ (xs : List Place). output text xs (take n xs)) e
-    ∙ ap (λ (xs : List Place). output text (seen ++ p ∷ []) xs) (take_front n seen (p ∷ []) within)
+pub noted_made : (text : Bytes) (seen new : List Place) (n : ℕ) (limit : Option ℕ) (p : Place)
+    (o : Output)
+    → record { text = text; seen = seen; before = take n seen; limit = limit } ≡ o
+    → n ≤ length seen → new ≡ seen ++ p ∷ []
+    → record { text = text; seen = new; before = take n new; limit = limit } ≡ noted o p
+noted_made text seen new n limit p o is within e =
+    ap (λ (xs : List Place). output text xs (take n xs) limit) e
+    ∙ ap (λ (xs : List Place). output text (seen ++ p ∷ []) xs limit)
+    (take_front n seen (p ∷ []) within)
     ∙ ap (λ (x : Output). noted x p) is
 
-pub number_made : (text : Bytes) (seen new : List Place) (n r : ℕ) (p : Place) (o : Output)
-    → record { text = text; seen = seen; before = take n seen } ≡ o → r ≡ length new
-    → new ≡ seen ++ p ∷ [] → r ≡ suc (length o.seen)
-number_made text seen new n r p o is count e =
+pub number_made : (text : Bytes) (seen new : List Place) (n r : ℕ) (limit : Option ℕ) (p : Place)
+    (o : Output)
+    → record { text = text; seen = seen; before = take n seen; limit = limit } ≡ o
+    → r ≡ length new → new ≡ seen ++ p ∷ [] → r ≡ suc (length o.seen)
+number_made text seen new n r limit p o is count e =
     let more = length-append seen (p ∷ []) in
     let one : r ≡ length (seen ++ p ∷ []) = count ∙ ap length e in
     let all : r ≡ suc (length seen) = omega (arith, one, more) in
@@ -175,22 +179,23 @@ cut_behind front t =
     gone [] = refl
     gone (x ∷ xs) = gone xs
 
-pub cut_made : (text new : Bytes) (seen before : List Place) (start : ℕ) (o : Output)
-    → record { text = text; seen = seen; before = before } ≡ o → start ≤ length o.text
-    → print_limit < length text - start → new ≡ take (start + print_limit) text ++ codes ".."
-    → record { text = new; seen = seen; before = before } ≡ with_cut start o
+pub cut_made : (text new : Bytes) (seen before : List Place) (start : ℕ) (limit : Option ℕ)
+    (o : Output) → record { text = text; seen = seen; before = before; limit = limit } ≡ o
+    → start ≤ length o.text → print_limit < length text - start
+    → new ≡ take (start + print_limit) text ++ codes ".."
+    → record { text = new; seen = seen; before = before; limit = None } ≡ with_cut start o
 unfolding with_cut
-cut_made text new seen before start o is within long e =
+cut_made text new seen before start limit o is within long e =
     let here : start ≤ length text = subst (λ (x : Output). start ≤ length x.text) (sym is) within in
-    ap (λ (t : Bytes). output t seen before) (cut_long start text new here long e)
+    ap (λ (t : Bytes). output t seen before None) (cut_long start text new here long e)
     ∙ ap (with_cut start) is
 
-pub uncut : (text : Bytes) (seen before : List Place) (start : ℕ) (o : Output)
-    → record { text = text; seen = seen; before = before } ≡ o → start ≤ length o.text
-    → length text - start ≤ print_limit
-    → record { text = text; seen = seen; before = before } ≡ with_cut start o
+pub uncut : (text : Bytes) (seen before : List Place) (start : ℕ) (limit : Option ℕ) (o : Output)
+    → record { text = text; seen = seen; before = before; limit = limit } ≡ o
+    → start ≤ length o.text → length text - start ≤ print_limit
+    → record { text = text; seen = seen; before = before; limit = None } ≡ with_cut start o
 unfolding with_cut
-uncut text seen before start o is within short =
+uncut text seen before start limit o is within short =
     let here : start ≤ length text = subst (λ (x : Output). start ≤ length x.text) (sym is) within in
-    ap (λ (t : Bytes). output t seen before) (cut_short start text here short)
+    ap (λ (t : Bytes). output t seen before None) (cut_short start text here short)
     ∙ ap (with_cut start) is

@@ -1,5 +1,5 @@
 -- A text and the objects that appeared, to which texts are appended.
-use Rattle.std.specs.Prelude.{ℕ, zero, suc, Bool, not, if◌then◌else◌, List, [], ◌∷◌, ◌++◌, length, drop, take, Option, Some, None, is_some, slice_get, codes, decimal}
+use Rattle.std.specs.Prelude.{ℕ, zero, suc, ◌+◌, ◌-◌, Bool, not, if◌then◌else◌, List, [], ◌∷◌, ◌++◌, length, drop, take, Option, Some, None, is_some, slice_get, codes, decimal}
 use Rattle.std.specs.Option.{option_map_or}
 use Rattle.dg_lex.specs.Bytes.{Bytes}
 use Rattle.dg_types.specs.declared.key.MapKeyVal.{MapKeyVal}
@@ -7,25 +7,38 @@ use Rattle.dg_types.specs.Texts.{map_key_text}
 use Rattle.dg_decl.specs.declared.document.Doc.{Doc}
 use Rattle.dg_decl.specs.declared.item.Param.{Param}
 use Rattle.dg_value.specs.declared.place.Place.{Place}
-use Rattle.dg_eval.specs.Report.{Printing, cut, seen_at, value_class_name}
+use Rattle.dg_eval.specs.Report.{Printing, cut, print_limit, seen_at, value_class_name}
 
--- a text, the identities of the objects that appeared before its end, and how many of them appeared
--- before the line of the text
+-- a text, the identities of the objects that appeared before its end, those of them that appeared
+-- before the line of the text, and to how many bytes the text comes at most, where it doesn't take
+-- all
 pub record Output : Type 0 where
   pub text : Bytes
   pub seen : List Place
   pub before : List Place
+  pub limit : Option ℕ
+
+-- a text behind another one, as far as both don't go beyond a limit
+unfoldable pub taken : Option ℕ → Bytes → Bytes → Bytes
+taken None front t = front ++ t
+taken (Some limit) front t = front ++ take (limit - length front) t
 
 -- what is printed behind a text
 abbrev pub followed : Output → Printing → Output
 followed o p = record {
-  text = o.text ++ (p o.seen).text;
+  text = taken o.limit o.text (p o.seen).text;
   seen = (p o.seen).seen;
   before = o.before;
+  limit = o.limit;
 }
 
 unfoldable pub with_text : Output → Bytes → Output
-with_text o t = record { text = o.text ++ t; seen = o.seen; before = o.before }
+with_text o t = record {
+  text = taken o.limit o.text t;
+  seen = o.seen;
+  before = o.before;
+  limit = o.limit;
+}
 
 -- ---- members with commas between
 
@@ -64,7 +77,12 @@ is_new o ident = not (is_some (seen_at ident o.seen))
 
 -- one object more has appeared
 abbrev pub noted : Output → Place → Output
-noted o ident = record { text = o.text; seen = o.seen ++ ident ∷ []; before = o.before }
+noted o ident = record {
+  text = o.text;
+  seen = o.seen ++ ident ∷ [];
+  before = o.before;
+  limit = o.limit;
+}
 
 -- the number of an object behind a text: one that is new gets the next
 unfoldable pub with_number : Output → Place → Output
@@ -104,10 +122,20 @@ with_object doc fields class ident o = numbered (is_new o ident)
 
 -- ---- what is too long
 
--- what stands behind the first so many bytes is cut, where it is too long
+-- behind this text so many bytes are taken as tell whether what follows is too long
+abbrev pub limited : Output → Output
+limited o = record {
+  text = o.text;
+  seen = o.seen;
+  before = o.before;
+  limit = Some (length o.text + suc print_limit);
+}
+
+-- what stands behind the first so many bytes is cut, where it is too long, and then all is taken
 unfoldable pub with_cut : ℕ → Output → Output
 with_cut start o = record {
   text = take start o.text ++ cut (drop start o.text);
   seen = o.seen;
   before = o.before;
+  limit = None;
 }

@@ -1,8 +1,9 @@
 //! A text to which a reply is appended, and the objects that appeared before its end.
 
-ghost use Rattle.std.specs.Prelude.{◌≡◌, ◌<◌, ◌≤◌, ◌^◌, ◌++◌, ◌∷◌, [], not, is_some, suc, true, decimal, length, IfOk, IfSome, OnErr, OnOk};
+ghost use Rattle.std.specs.Prelude.{◌≡◌, ◌<◌, ◌≤◌, ◌^◌, ◌++◌, ◌∷◌, [], None, not, is_some, suc, true, decimal, length, IfOk, IfSome, OnErr, OnOk};
 ghost use Rattle.std.specs.Fmt.{signed_decimal};
 ghost use Rattle.dg_eval.specs.Report.{seen_at};
+ghost use Rattle.dg_lex.specs.Bytes.{Bytes};
 ghost use Rattle.dg_lex.specs.Lexemes.{quoted};
 ghost use Rattle.dg_report.specs.Output as spec;
 ghost use Rattle.dg_types.specs.Texts.{map_key_text};
@@ -26,6 +27,8 @@ pub(crate) struct Output {
     places: IndexSet<Place>,
     /// How many objects appeared before the line.
     before: usize,
+    /// To how many bytes the text comes at most, where it doesn't take all.
+    limit: Option<usize>,
 }
 
 impl Model for Output {
@@ -38,6 +41,7 @@ impl Model for Output {
       text = o.text.items;
       seen = o.places.keys;
       before = take o.before o.places.keys;
+      limit = o.limit;
     } };
 
     ghost invariant = { λ o. o.before ≤ length o.places.keys };
@@ -54,10 +58,21 @@ fn add_new(ident: &Place, places: &mut IndexSet<Place>) -> Result<(), NoMemory>
     Ok(())
 }
 
+/// Takes away what goes beyond a limit behind the first so many bytes.
+fn keep_within(limit: Option<usize>, start: usize, text: &mut Vec<u8>)
+    ensures exact { (front t : Bytes) → start ≡ length front → text.old.items ≡ front ++ t
+        → text.new.items ≡ spec.taken limit front t }
+{
+    if let Some(limit) = limit {
+        text.truncate(limit.max(start));
+    }
+}
+
 impl Output {
     /// No text, behind the objects that appeared.
     pub(crate) fn behind(alloc: Global, numbers: Numbers) -> Output
-        ensures exact { result ≡ record { text = []; seen = numbers; before = numbers } }
+        ensures exact { result
+            ≡ record { text = []; seen = numbers; before = numbers; limit = None } }
     {
         let Numbers { places } = numbers;
         let before = places.len();
@@ -65,6 +80,7 @@ impl Output {
             text: Vec::new(alloc),
             places,
             before,
+            limit: None,
         }
     }
 
@@ -76,6 +92,7 @@ impl Output {
             text,
             places,
             before: _,
+            limit: _,
         } = self;
         (text, Numbers { places })
     }
@@ -88,6 +105,7 @@ impl Output {
             text: _,
             mut places,
             before,
+            limit: _,
         } = self;
         places.truncate(before);
         Numbers { places }
@@ -99,7 +117,9 @@ impl Output {
         ensures exact { OnOk result (self.new ≡ spec.with_text self.old bytes.now) }
         ensures kept { self.new.before ≡ self.old.before }
     {
+        let start = self.text.len();
         self.text.extend_from_slice(bytes)?;
+        keep_within(self.limit, start, &mut self.text);
         Ok(())
     }
 
@@ -109,7 +129,10 @@ impl Output {
         ensures exact { OnOk result (self.new ≡ spec.with_text self.old (quoted text.now)) }
         ensures kept { self.new.before ≡ self.old.before }
     {
-        push_quoted(&mut self.text, text)
+        let start = self.text.len();
+        push_quoted(&mut self.text, text)?;
+        keep_within(self.limit, start, &mut self.text);
+        Ok(())
     }
 
     /// Appends the key of an entry of a map.
@@ -118,7 +141,10 @@ impl Output {
         ensures exact { OnOk result (self.new ≡ spec.with_text self.old (map_key_text key.now)) }
         ensures kept { self.new.before ≡ self.old.before }
     {
-        push_map_key_text(&mut self.text, key)
+        let start = self.text.len();
+        push_map_key_text(&mut self.text, key)?;
+        keep_within(self.limit, start, &mut self.text);
+        Ok(())
     }
 
     /// Appends an integer in decimal.
@@ -128,8 +154,7 @@ impl Output {
         ensures kept { self.new.before ≡ self.old.before }
     {
         let mut buffer = Buffer::new();
-        self.text.extend_from_slice(buffer.format(n).as_bytes())?;
-        Ok(())
+        self.push(buffer.format(n).as_bytes())
     }
 
     /// Appends a number in decimal.
@@ -139,8 +164,7 @@ impl Output {
         ensures kept { self.new.before ≡ self.old.before }
     {
         let mut buffer = Buffer::new();
-        self.text.extend_from_slice(buffer.format(n).as_bytes())?;
-        Ok(())
+        self.push(buffer.format(n).as_bytes())
     }
 
     /// Appends a comma, unless the member behind it is the first.
@@ -195,20 +219,25 @@ impl Output {
         }
     }
 
-    /// How many bytes there are.
-    pub(crate) fn len(&self) -> usize
-        ensures exact { result ≡ length self.now.text }
+    /// From here on takes only as many bytes as tell whether the value that follows is too long,
+    /// and gives where it begins.
+    pub(crate) fn begin_value(&mut self) -> usize
+        ensures exact { self.new ≡ spec.limited self.old }
+        ensures start { result ≡ length self.old.text }
     {
-        self.text.len()
+        let start = self.text.len();
+        self.limit = Some(start + MOST_BYTES + 1);
+        start
     }
 
-    /// Cuts what stands behind the first so many bytes, where it is too long.
+    /// Cuts what stands behind the first so many bytes, where it is too long, and takes all again.
     #[tactic(auto, unfolding(crate::specs::Output::with_cut))]
     pub(crate) fn cut_behind(&mut self, start: usize) -> Result<(), NoMemory>
         requires within { start ≤ length self.old.text }
         ensures exact { OnOk result (self.new ≡ spec.with_cut start self.old) }
         ensures kept { self.new.before ≡ self.old.before }
     {
+        self.limit = None;
         if self.text.len() - start > MOST_BYTES {
             self.text.truncate(start + MOST_BYTES);
             self.text.extend_from_slice(b"..")?;

@@ -1,6 +1,6 @@
 //! How a reply is written.
 
-ghost use Rattle.std.specs.Prelude.{◌≡◌, [], IfOk, OnErr, OnOk, slice_get};
+ghost use Rattle.std.specs.Prelude.{◌≡◌, [], None, IfOk, OnErr, OnOk, slice_get};
 ghost use Rattle.std.specs.Option.{option_map_or};
 ghost use Rattle.dg_eval.specs.Report as report;
 ghost use Rattle.dg_report.specs.Held.{HoldsReply};
@@ -21,7 +21,8 @@ use std::mem;
 /// Through how many cells the content of a cell leads at most.
 const MOST_CELLS: u32 = 128;
 
-/// Appends the value of a reply, cut where it is longer than a reply may be.
+/// Appends the value of a reply, cut where it is longer than a reply may be. The part that is cut
+/// off takes no memory but that of its objects' numbers.
 fn push_cut<C: Contents>(
     names: &ClassNames<'_>,
     cells: &C,
@@ -29,11 +30,12 @@ fn push_cut<C: Contents>(
     out: &mut Output,
 ) -> Result<(), NoMemory>
     requires held { HoldsReply names.now (C.content cells.now) (reply.Value v.now) }
+    requires whole { out.old.limit ≡ None }
     ensures exact { OnOk result (out.new
         ≡ spec.followed out.old (report.reply_text names.now (reply.Value v.now))) }
     ensures kept { out.new.before ≡ out.old.before }
 {
-    let start = out.len();
+    let start = out.begin_value();
     push_value(names, cells, MOST_CELLS, v, out)?;
     out.cut_behind(start)?;
     Ok(())
@@ -81,6 +83,7 @@ fn push_reply<C: Contents>(
 ) -> Result<(), NoMemory>
     requires plan { p.now ≡ plan_of names.now }
     requires held { HoldsReply names.now (C.content cells.now) r.now }
+    requires whole { out.old.limit ≡ None }
     ensures exact { OnOk result (out.new
         ≡ spec.followed out.old (report.reply_text names.now r.now)) }
     ensures kept { out.new.before ≡ out.old.before }
@@ -103,6 +106,7 @@ fn push_line<C: Contents>(
 ) -> Result<(), NoMemory>
     requires plan { p.now ≡ plan_of names.now }
     requires held { HoldsReply names.now (C.content cells.now) r.now }
+    requires whole { out.old.limit ≡ None }
     ensures exact { OnOk result (out.new
         ≡ spec.followed out.old (report.reply_line names.now number r.now)) }
     ensures kept { out.new.before ≡ out.old.before }

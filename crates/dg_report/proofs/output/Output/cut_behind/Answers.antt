@@ -6,5 +6,5 @@ pub returns-in_ok-extend_from_slice-clause-exact : goal.returns-in_ok-extend_fro
 returns-in_ok-extend_from_slice-clause-exact c =
     cut_made c.self.inside.text.items c.extend_from_slice.new.self.items
     c.self.inside.places.keys (take c.self.inside.before c.self.inside.places.keys) c.args.start
-    c.args.self.now c.self.view_is c.requires.within (omega arith)
+    c.self.inside.limit c.args.self.now c.self.view_is c.requires.within (omega arith)
     (c.in_ok-extend_from_slice.ensures.items ∙ ap (λ x. x ++ codes "..") c.truncate.ensures.items)

@@ -12,8 +12,8 @@ returns-in_err-kept-in-None g c =
     let x = cell c.args.inst c.args.slot in
     let start = c.asked_cell.new.self.asked in
     let first = looked_none doc x c.args.self.now.asked start
-    c.in_ok-kept.field-0 c.in-None.is
-    c.in_ok-kept.ensures.exact in
+    c.in_ok-held.field-0 c.in-None.is
+    c.in_ok-held.ensures.exact in
     let made = c.requires.gives c.asked_cell.new.self c.build.new.cells
     (Err c.in_err-kept-in-None.field-0.0) refl c.in_err-kept-in-None.ensures in
     let p = err_from_is_err_and c.from_residual-in_err-kept-in-None.result
@@ -42,8 +42,8 @@ returns-in_err-keep_cell-in-None g c =
     let x = cell c.args.inst c.args.slot in
     let start = c.asked_cell.new.self.asked in
     let first = looked_none doc x c.args.self.now.asked start
-    c.in_ok-kept.field-0 c.in-None.is
-    c.in_ok-kept.ensures.exact in
+    c.in_ok-held.field-0 c.in-None.is
+    c.in_ok-held.ensures.exact in
     let made = c.requires.gives c.asked_cell.new.self c.build.new.cells
     (Ok c.in_ok-kept-in-None.kept) refl c.in_ok-kept-in-None.ensures in
     let p = err_from_is_err_and c.from_residual-in_err-keep_cell-in-None.result
@@ -63,8 +63,8 @@ returns-in-Some g c =
     let doc = g.D.OfDoc.document in
     let x = cell c.args.inst c.args.slot in
     let h = looked_some doc x c.args.self.now.asked
-    c.asked_cell.new.self.asked c.in_ok-kept.field-0
-    c.in-Some.held c.in-Some.is c.in_ok-kept.ensures.exact in
+    c.asked_cell.new.self.asked c.in_ok-held.field-0
+    c.in-Some.held c.in-Some.is c.in_ok-held.ensures.exact in
     record {
       exact = called_again doc x c.args.self.now.asked c.asked_cell.new.self.asked c.in-Some.held
           h.0 h.1;
@@ -77,8 +77,8 @@ returns-in_ok-keep_cell-in-None g c =
     let x = cell c.args.inst c.args.slot in
     let start = c.asked_cell.new.self.asked in
     let first = looked_none doc x c.args.self.now.asked start
-    c.in_ok-kept.field-0 c.in-None.is
-    c.in_ok-kept.ensures.exact in
+    c.in_ok-held.field-0 c.in-None.is
+    c.in_ok-held.ensures.exact in
     let made = c.requires.gives c.asked_cell.new.self c.build.new.cells
     (Ok c.in_ok-kept-in-None.kept) refl c.in_ok-kept-in-None.ensures in
     record {
