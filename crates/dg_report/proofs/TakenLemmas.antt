@@ -7,7 +7,7 @@ use Rattle.dg_lex.specs.Bytes.{Bytes}
 use Rattle.dg_value.specs.declared.place.Place.{Place}
 use Rattle.dg_report.specs.Output.{Output, taken, with_text}
 
-take_none : (n : ℕ) → take n [] ≡ ([] : Bytes)
+take_none : (n : ℕ) → ◌≡◌ {A = Bytes} (take n []) []
 take_none zero = refl
 take_none (suc n) = refl
 
@@ -54,10 +54,9 @@ taken_both (Some limit) front a b =
 
 -- ---- what was appended is taken
 
-pub all_taken : (start : ℕ) (front t old new : Bytes) → old ≡ front ++ t → new ≡ old
-    → new ≡ taken None front t
+pub all_taken : (front t text : Bytes) → text ≡ front ++ t → text ≡ taken None front t
 unfolding taken
-all_taken start front t old new is same = same ∙ is
+all_taken front t text is = is
 
 pub some_taken : (limit start : ℕ) (front t old new : Bytes) → start ≡ length front
     → old ≡ front ++ t → new ≡ take (max limit start) old → new ≡ taken (Some limit) front t

@@ -96,6 +96,7 @@ fn push_reply<C: Contents>(
 }
 
 /// Appends the line of a reply.
+#[tactic(auto, unfolding(crate::specs::Output::with_text))]
 fn push_line<C: Contents>(
     names: &ClassNames<'_>,
     p: &Plan,
@@ -121,6 +122,7 @@ fn push_line<C: Contents>(
 /// The line of the reply to the ask of this number, counted from 1, behind the replies whose
 /// objects are `n`. Objects that appear in it are in `n` afterwards, also those of the part of a
 /// long value that is cut off. After NoMemory `n` is as before.
+#[tactic(auto, unfolding(crate::specs::Output::taken))]
 pub fn reply_text<C: Contents>(
     alloc: Global,
     n: &mut Numbers,
