@@ -1,7 +1,9 @@
 -- The chain of a class by the rows of classes, also of a number that no class has.
-use Rattle.std.proofs.Common.{◌≡◌, inl, inr, ℕ, ◌-◌, ◌≤◌, Bool, if◌then◌else◌, List, ◌∷◌, length, slice_get, Option, None, option_map, option_and_then, sym, ap, ◌∙◌, arith}
+use Rattle.std.proofs.Common.{◌≡◌, inl, inr, ℕ, suc, ◌+◌, ◌-◌, ◌≤◌, Bool, if◌then◌else◌, List, ◌∷◌, length, slice_get, Option, Some, None, option_map, option_and_then, position, unwrap_or, sym, ap, ◌∙◌, arith}
+use Rattle.std.specs.List.{position_from}
 use Rattle.std.specs.Option.{option_or}
 use Rattle.std.proofs.lemmas.Bool.{le-ltb}
+use Rattle.std.proofs.lemmas.Iterator.Adapters.{position_from-zero}
 use Rattle.std.proofs.lemmas.Option.{slice_get_past, slice_get_cases}
 use Rattle.dg_hilt.specs.Table.{HiltRow, hilt_classes}
 use Rattle.dg_decl.specs.declared.component.Class.{Class}
@@ -46,3 +48,13 @@ unfolding chain ancestors
 chain_there doc classes c e =
     λ i. c ∷ walk (λ (x : ℕ). parent_there doc classes x e i) (count_is doc classes e i)
     (parent_there doc classes c e i)
+
+-- the walk that begins at a class is the class and the walk from the next one
+pub place_there : (test : ℕ → Bool) (next : ℕ → Option ℕ) (steps c : ℕ) (o : Option ℕ)
+    → o ≡ position_from test 0 (walk next (steps + 1) (Some c))
+    → unwrap_or o 0 ≡ unwrap_or (position test (c ∷ walk next steps (next c))) 0
+place_there test next steps c o is =
+    let more : steps + 1 ≡ suc steps = omega arith in
+    ap (λ (p : Option ℕ). unwrap_or p 0)
+    (is ∙ ap (λ n. position_from test 0 (walk next n (Some c))) more
+    ∙ sym (position_from-zero test (c ∷ walk next steps (next c))))

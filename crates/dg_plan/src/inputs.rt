@@ -43,7 +43,7 @@ pub fn input_of(
     Ok(Some(Input {
         mode: d.mode,
         slot,
-        level: level_of(alloc, dependencies, d.class, found.class)?,
+        level: level_of(dependencies, d.class, found.class)?,
         dep: through(&node.kind),
     }))
 }

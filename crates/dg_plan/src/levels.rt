@@ -1,6 +1,7 @@
 //! How many parents up a class stands.
 
-ghost use Rattle.std.specs.Prelude.{◌≡◌, ◌++◌, ◌∷◌, ◌==◌, IfOk, OnOk, length, position, unwrap_or};
+ghost use Rattle.std.specs.Prelude.{◌≡◌, ◌<◌, ◌+◌, ◌^◌, ◌∷◌, ◌==◌, IfOk, length, position, unwrap_or};
+ghost use Rattle.std.specs.List.{position_from};
 ghost use Rattle.dg_decl.specs.Components.{walk};
 ghost use Rattle.dg_resolve.specs.Chains as chains;
 ghost use Rattle.dg_slots.specs.Plans as spec;
@@ -8,7 +9,6 @@ ghost use Rattle.dg_slots.specs.Plans as spec;
 use dg_decl::Class;
 use dg_deps::Dependencies;
 use dg_types::NoMemory;
-use std::alloc::Global;
 
 /// The number of an index. A list of 2^32 members takes more memory than there is, so an index
 /// without a number counts as memory that is lacking.
@@ -32,70 +32,51 @@ fn parent_at(classes: &[Class], class: u32) -> Option<u32>
     }
 }
 
-/// Pushes this class and its ancestors, at most so many.
-fn push_ancestors(
-    found: &mut Vec<u32>,
+/// How many parents up the other class stands, and so many more: of this class and its ancestors, at
+/// most so many.
+fn place_above(
     classes: &[Class],
     at: Option<u32>,
+    above: u32,
     steps: usize,
-) -> Result<(), NoMemory>
-    ensures exact { OnOk result (found.new.items
-        ≡ found.old.items ++ walk (chains.parent_at classes.now) steps at) }
+    place: usize,
+) -> Option<usize>
+    requires room { place + steps < 2 ^ 64 }
+    ensures exact { result
+        ≡ position_from (λ c. c == above) place (walk (chains.parent_at classes.now) steps at) }
 {
     let Some(class) = at else {
-        return Ok(());
+        return None;
     };
     if steps == 0 {
-        return Ok(());
+        return None;
     }
-    found.push(class)?;
-    push_ancestors(found, classes, parent_at(classes, class), steps - 1)?;
-    Ok(())
+    if class == above {
+        return Some(place);
+    }
+    place_above(classes, parent_at(classes, class), above, steps - 1, place + 1)
 }
 
-/// A class and its ancestors, the root last.
-fn chain_of(alloc: Global, classes: &[Class], class: u32) -> Result<Vec<u32>, NoMemory>
-    ensures exact { IfOk result (λ found. found.items ≡ class
+/// How many parents up a class stands on the chain of another one, and 0 where it isn't there.
+fn place_on_chain(classes: &[Class], class: u32, above: u32) -> usize
+    ensures exact { result ≡ unwrap_or (position (λ c. c == above) (class
         ∷ walk (chains.parent_at classes.now) (length classes.now)
-        (chains.parent_at classes.now class)) }
+        (chains.parent_at classes.now class))) 0 }
 {
-    let mut found = Vec::new(alloc);
-    found.push(class)?;
-    push_ancestors(
-        &mut found,
-        classes,
-        parent_at(classes, class),
-        classes.len(),
-    )?;
-    Ok(found)
-}
-
-/// The index of a class among others.
-fn place_of(chain: &[u32], above: u32) -> Option<usize>
-    ensures exact { result ≡ position (λ c. c == above) chain.now }
-{
-    chain.iter().position(|c| *c == above)
-}
-
-/// The index of a class among others, and 0 where it isn't there.
-fn place_in(chain: &[u32], above: u32) -> usize
-    ensures exact { result ≡ unwrap_or (position (λ c. c == above) chain.now) 0 }
-{
-    match place_of(chain, above) {
+    match place_above(classes, Some(class), above, classes.len() + 1, 0) {
         Some(place) => place,
         None => 0,
     }
 }
 
-/// How many parents up a class stands on the chain of another one.
+/// How many parents up a class stands on the chain of another one. It allocates nothing.
 pub fn level_of(
-    alloc: Global,
     dependencies: &Dependencies<'_>,
     class: u32,
     above: u32,
 ) -> Result<u32, NoMemory>
     ensures exact { IfOk result (λ level. level ≡ spec.level_of dependencies.now class above) }
 {
-    let chain = chain_of(alloc, dependencies.tree().classes.as_slice(), class)?;
-    Ok(number(place_in(chain.as_slice(), above))?)
+    let classes = dependencies.tree().classes.as_slice();
+    Ok(number(place_on_chain(classes, class, above))?)
 }

@@ -4,9 +4,8 @@ use Rattle.dg_plan.proofs.levels.level_of.Goals as goal
 
 pub returns : goal.returns
 returns c = record {
-  exact = c.in_ok-number.ensures.exact ∙ c.place_in.ensures.exact
+  exact = c.in_ok-number.ensures.exact ∙ c.place_on_chain.ensures.exact
       ∙ ap (λ (l : List ℕ). unwrap_or (position (λ x. x == c.args.above) l) 0)
-      (c.as_slice-2.ensures.value ∙ c.in_ok-chain.ensures.exact
-      ∙ chain_there c.args.dependencies.now c.as_slice.result.now c.args.class
-      (c.as_slice.ensures ∙ c.tree.ensures.exact));
+      (chain_there c.args.dependencies.now c.as_slice-classes.result.now c.args.class
+      (c.as_slice-classes.ensures ∙ c.tree-classes.ensures.exact));
 }
