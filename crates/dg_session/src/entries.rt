@@ -12,6 +12,7 @@ use dg_compdep::class_of_instance;
 use dg_decl::Item;
 use dg_names::{Names, Statement};
 use dg_types::Shape;
+use sqlite_items::at;
 
 /// The item of an index.
 fn item_at<'a>(names: &Names<'a>, index: u32) -> Option<&'a Item>
@@ -21,12 +22,13 @@ fn item_at<'a>(names: &Names<'a>, index: u32) -> Option<&'a Item>
 }
 
 /// The index of the entry of this name of a class.
+#[tactic(auto, using(crate::proofs::EntryTableLemmas::found_at, crate::proofs::EntryTableLemmas::found_nowhere))]
 fn entry_called(scene: &Scene<'_>, class: u32, name: &[u8]) -> Option<u32>
     ensures exact { result
         ≡ find (sessions.is_entry_called scene.now name.now) (entries_of scene.now class) }
 {
     match scene.entry_place(class, name) {
-        Some(place) => scene.entries(class).get(place).copied(),
+        Some(place) => at(scene.entries(class), place).copied(),
         None => None,
     }
 }
