@@ -32,7 +32,7 @@ keep_class-requires c =
       taken = subst (λ (d : Doc). AreTaken d c.args.found.now.keys c.as_slice.result.now)
           c.lookups-lookups.ensures.exact
           (subst (λ (r : Rows). AreTaken c.lookups-lookups.result.now c.args.found.now.keys r)
-          (sym c.as_slice.ensures) c.in_ok-taken.ensures.exact);
+          (sym c.as_slice.ensures.value) c.in_ok-taken.ensures.exact);
     }
 
 pub loop-class-preserved : goal.loop-class-preserved
