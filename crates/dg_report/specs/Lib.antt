@@ -1,3 +1,4 @@
 pub mod Held
 pub mod Output
+pub mod Packed
 pub mod Shown

@@ -4,6 +4,7 @@
 mod classes;
 mod numbers;
 mod output;
+mod packed;
 mod replies;
 mod values;
 
