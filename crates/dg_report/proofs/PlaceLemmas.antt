@@ -2,54 +2,22 @@
 use Rattle.std.proofs.Common.{◌≡◌, ℕ, zero, suc, ◌+◌, ◌≤◌, Bool, true, false, cond, not, ◌&&◌, ◌||◌, nat_lt, List, [], ◌∷◌, ◌++◌, length, take, drop, position, Option, Some, None, is_some, if◌then◌else◌, refl, sym, ap, subst, ◌∙◌, append_assoc, length-append, arith, codes, ◌<◌, ◌-◌}
 use Rattle.std.specs.List.{list_any, position_or_len}
 use Rattle.std.proofs.lemmas.Bool.{lt-ltb, le-ltb, ltb-true, ltb-false}
-use Rattle.std.specs.Cmp.Lexicographic.{pointwise}
 use Rattle.indexmap.specs.IndexSet.{insert_key}
 use Rattle.dg_lex.specs.Bytes.{Bytes}
-use Rattle.dg_value.specs.contracts.place.PlacePartialEq.TheImpl as of_places
-use Rattle.dg_value.specs.contracts.place.PlaceRootPartialEq.TheImpl as of_roots
-use Rattle.dg_value.specs.contracts.place.PlaceStepPartialEq.TheImpl as of_steps
 use Rattle.dg_value.specs.declared.place.Place.{Place}
-use Rattle.dg_value.specs.declared.place.PlaceRoot.{PlaceRoot}
-use Rattle.dg_value.specs.declared.place.PlaceRoot.TheVariants as root
-use Rattle.dg_value.specs.declared.place.PlaceStep.{PlaceStep}
-use Rattle.dg_value.specs.declared.place.PlaceStep.TheVariants as step
-use Rattle.dg_value.specs.Places.{same_root, same_step, same_steps, same_place}
 use Rattle.dg_eval.specs.Report.{seen_at, print_limit, cut}
 use Rattle.dg_report.specs.Output.{Output, noted, with_cut}
+use Rattle.dg_report.specs.Packed.{packed_eq}
+use Rattle.dg_report.proofs.PackedLemmas.{packed_same}
 
 abbrev output : Bytes → List Place → List Place → Option ℕ → Output
 output t s b l = record { text = t; seen = s; before = b; limit = l }
 
--- ---- the two tests of places agree
-
-root_same : (a b : PlaceRoot) → of_roots.ghosts.eq a b ≡ same_root a b
-root_same (root.Ask n) (root.Ask m) = refl
-root_same (root.Cell i k) (root.Cell j l) = refl
-root_same (root.Arg i a) (root.Arg j b) = refl
-root_same r s = refl
-
-step_same : (a b : PlaceStep) → of_steps.ghosts.eq a b ≡ same_step a b
-step_same (step.Arg n) (step.Arg m) = refl
-step_same (step.New n) (step.New m) = refl
-step_same (step.Call n) (step.Call m) = refl
-step_same (step.Elem n) (step.Elem m) = refl
-step_same (step.Step n) (step.Step m) = refl
-step_same step.Inside step.Inside = refl
-step_same s t = refl
-
-steps_same : (xs ys : List PlaceStep) → pointwise of_steps.ghosts.eq xs ys ≡ same_steps xs ys
-steps_same [] [] = refl
-steps_same [] (y ∷ ys) = refl
-steps_same (x ∷ xs) [] = refl
-steps_same (x ∷ xs) (y ∷ ys) = λ i. step_same x y i && steps_same xs ys i
-
-place_same : (p q : Place) → of_places.ghosts.eq p q ≡ same_place p q
-unfolding same_place
-place_same p q = λ i. root_same p.root q.root i && steps_same p.steps q.steps i
+-- ---- where an object stands
 
 pub place_found : (seen : List Place) (p : Place) (o : Option ℕ)
-    → o ≡ position (of_places.ghosts.eq p) seen → o ≡ seen_at p seen
-place_found seen p o e = e ∙ (λ i. position (λ (q : Place). place_same p q i) seen)
+    → o ≡ position (packed_eq p) seen → o ≡ seen_at p seen
+place_found seen p o e = e ∙ (λ i. position (λ (q : Place). packed_same p q i) seen)
 
 -- ---- an object more
 
@@ -87,15 +55,14 @@ not_true : (b : Bool) → not b ≡ true → b ≡ false
 not_true true e = cc
 not_true false e = refl
 
-pub one_more : (seen new : List Place) (p q : Place) → not (is_some (seen_at p seen)) ≡ true → q ≡ p
-    → new ≡ insert_key of_places.ghosts.eq seen q → new ≡ seen ++ p ∷ []
-one_more seen new p q fresh same e =
-    let none : list_any (of_places.ghosts.eq p) seen ≡ false =
-    sym (found_any (of_places.ghosts.eq p) seen)
-    ∙ ap is_some (place_found seen p (position (of_places.ghosts.eq p) seen) refl)
+pub one_more : (seen new : List Place) (p : Place) → not (is_some (seen_at p seen)) ≡ true
+    → new ≡ insert_key packed_eq seen p → new ≡ seen ++ p ∷ []
+one_more seen new p fresh e =
+    let none : list_any (packed_eq p) seen ≡ false =
+    sym (found_any (packed_eq p) seen)
+    ∙ ap is_some (place_found seen p (position (packed_eq p) seen) refl)
     ∙ not_true (is_some (seen_at p seen)) fresh in
-    e ∙ ap (λ (x : Place). insert_key of_places.ghosts.eq seen x) same
-    ∙ ap (λ (b : Bool). if b then seen else seen ++ p ∷ []) none
+    e ∙ ap (λ (b : Bool). if b then seen else seen ++ p ∷ []) none
 
 -- ---- what stands in front
 

@@ -2,17 +2,18 @@
 
 ghost use Rattle.std.specs.Prelude.{◌≡◌, []};
 
-use dg_value::Place;
+use crate::packed::Packed;
 use indexmap::IndexSet;
 use std::alloc::Global;
 use std::marker::Model;
 
 /// The objects that appeared in the replies so far, in order: the number of an object is its place
-/// among them, counted from 1. Contracts see the list of their identities. To find one takes the
-/// time of hashing its identity, as a rule.
+/// among them, counted from 1. Contracts see the list of their identities. An identity takes a byte
+/// for each step, and four more for one whose number is 32 or larger, besides what is the same for
+/// each. To find one takes the time of hashing its identity, as a rule.
 #[derive(Drop)]
 pub struct Numbers {
-    pub(crate) places: IndexSet<Place>,
+    pub(crate) places: IndexSet<Packed>,
 }
 
 impl Model for Numbers {

@@ -9,6 +9,7 @@ ghost use Rattle.dg_report.specs.Output as spec;
 ghost use Rattle.dg_types.specs.Texts.{map_key_text};
 
 use crate::numbers::Numbers;
+use crate::packed::Packed;
 use dg_types::{MapKeyVal, NoMemory, push_map_key_text, push_quoted};
 use dg_value::Place;
 use indexmap::IndexSet;
@@ -24,7 +25,7 @@ const MOST_BYTES: usize = 65_536;
 #[derive(Drop)]
 pub(crate) struct Output {
     text: Vec<u8>,
-    places: IndexSet<Place>,
+    places: IndexSet<Packed>,
     /// How many objects appeared before the line.
     before: usize,
     /// To how many bytes the text comes at most, where it doesn't take all.
@@ -48,13 +49,12 @@ impl Model for Output {
 }
 
 /// Adds an object that isn't among the others.
-fn add_new(ident: &Place, places: &mut IndexSet<Place>) -> Result<(), NoMemory>
-    requires new { not (is_some (seen_at ident.now places.old.keys)) ≡ true }
-    ensures exact { OnOk result (places.new.keys ≡ places.old.keys ++ ident.now ∷ []) }
+fn add_new(ident: Packed, places: &mut IndexSet<Packed>) -> Result<(), NoMemory>
+    requires new { not (is_some (seen_at ident places.old.keys)) ≡ true }
+    ensures exact { OnOk result (places.new.keys ≡ places.old.keys ++ ident ∷ []) }
     ensures kept { OnErr result (places.new.keys ≡ places.old.keys) }
 {
-    let copy = ident.copy()?;
-    places.insert(copy)?;
+    places.insert(ident)?;
     Ok(())
 }
 
@@ -179,7 +179,7 @@ impl Output {
     }
 
     /// The place of an object among those that appeared.
-    fn place_of(&self, ident: &Place) -> Option<usize>
+    fn place_of(&self, ident: &Packed) -> Option<usize>
         ensures exact { result ≡ seen_at ident.now self.now.seen }
         ensures bound { IfSome result (λ place. place < 2 ^ 63) }
     {
@@ -188,9 +188,9 @@ impl Output {
     }
 
     /// Notes an object that didn't appear before, and gives its number.
-    fn note(&mut self, ident: &Place) -> Result<usize, NoMemory>
-        requires new { spec.is_new self.old ident.now ≡ true }
-        ensures exact { OnOk result (self.new ≡ spec.noted self.old ident.now) }
+    fn note(&mut self, ident: Packed) -> Result<usize, NoMemory>
+        requires new { spec.is_new self.old ident ≡ true }
+        ensures exact { OnOk result (self.new ≡ spec.noted self.old ident) }
         ensures number { IfOk result (λ number. number ≡ suc (length self.old.seen)) }
         ensures kept { self.new.before ≡ self.old.before }
     {
@@ -201,12 +201,12 @@ impl Output {
     /// Appends the number of an object, and tells whether the object is new. One that is new gets
     /// the next number.
     #[tactic(auto, unfolding(crate::specs::Output::with_number))]
-    pub(crate) fn push_number(&mut self, ident: &Place) -> Result<bool, NoMemory>
-        ensures exact { OnOk result (self.new ≡ spec.with_number self.old ident.now) }
-        ensures is_new { IfOk result (λ new. new ≡ spec.is_new self.old ident.now) }
+    fn push_packed(&mut self, ident: Packed) -> Result<bool, NoMemory>
+        ensures exact { OnOk result (self.new ≡ spec.with_number self.old ident) }
+        ensures is_new { IfOk result (λ new. new ≡ spec.is_new self.old ident) }
         ensures kept { self.new.before ≡ self.old.before }
     {
-        match self.place_of(ident) {
+        match self.place_of(&ident) {
             Some(place) => {
                 self.push_decimal(place + 1)?;
                 Ok(false)
@@ -217,6 +217,17 @@ impl Output {
                 Ok(true)
             }
         }
+    }
+
+    /// Appends the number of an object, and tells whether the object is new. One that is new gets
+    /// the next number.
+    pub(crate) fn push_number(&mut self, ident: &Place) -> Result<bool, NoMemory>
+        ensures exact { OnOk result (self.new ≡ spec.with_number self.old ident.now) }
+        ensures is_new { IfOk result (λ new. new ≡ spec.is_new self.old ident.now) }
+        ensures kept { self.new.before ≡ self.old.before }
+    {
+        let packed = Packed::of(ident)?;
+        self.push_packed(packed)
     }
 
     /// From here on takes only as many bytes as tell whether the value that follows is too long,

@@ -107,17 +107,25 @@ fn numbers_of(alloc: Global, steps: &[PlaceStep]) -> Result<Vec<u32>, NoMemory>
 }
 
 impl Packed {
+    /// A root and steps in this form.
+    fn of_parts(alloc: Global, root: PlaceRoot, steps: &[PlaceStep]) -> Result<Packed, NoMemory>
+        ensures exact { IfOk result (λ packed. packed ≡ record { root = root; steps = steps.now }) }
+    {
+        let codes = codes_of(alloc, steps)?;
+        let numbers = numbers_of(alloc, steps)?;
+        Ok(Packed {
+            root,
+            codes,
+            numbers,
+        })
+    }
+
     /// A place in this form.
     pub(crate) fn of(place: &Place) -> Result<Packed, NoMemory>
         ensures exact { IfOk result (λ packed. packed ≡ place.now) }
     {
         let alloc = *place.steps.steps.allocator();
-        let steps = place.steps.as_slice();
-        Ok(Packed {
-            root: place.root,
-            codes: codes_of(alloc, steps)?,
-            numbers: numbers_of(alloc, steps)?,
-        })
+        Packed::of_parts(alloc, place.root, place.steps.as_slice())
     }
 }
 
