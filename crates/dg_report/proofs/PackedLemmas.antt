@@ -1,8 +1,7 @@
 -- What is packed comes back, and two packed places are equal where the places are.
-use Rattle.std.proofs.Common.{◌≡◌, ◌<◌, ◌≤◌, ℕ, ◌+◌, ◌-◌, Bool, true, false, ◌&&◌, nat_lt, if◌then◌else◌, List, [], ◌∷◌, ◌++◌, map, refl, sym, ap, ◌∙◌, true≢false, arith}
+use Rattle.std.proofs.Common.{◌≡◌, ◌<◌, ◌≤◌, ℕ, ◌+◌, ◌-◌, Bool, true, false, ◌&&◌, nat_lt, if◌then◌else◌, List, [], ◌∷◌, ◌++◌, refl, sym, ap, ◌∙◌, arith}
 use Rattle.std.specs.Cmp.{first_so, second_so}
-use Rattle.std.specs.Str.{bytes_eq}
-use Rattle.std.proofs.lemmas.Bool.{lt-ltb, le-ltb, ltb-true, ltb-false}
+use Rattle.std.proofs.lemmas.Bool.{lt-ltb, le-ltb, ltb-true}
 use Rattle.std.proofs.lemmas.Slice.Eq.{bytes_eq-Decides}
 use Rattle.dg_value.proofs.PlaceLemmas.{places_tell_equal}
 use Rattle.dg_value.specs.contracts.place.PlaceRootPartialEq.TheImpl as of_roots
@@ -12,7 +11,7 @@ use Rattle.dg_value.specs.declared.place.PlaceRoot.TheVariants as root
 use Rattle.dg_value.specs.declared.place.PlaceStep.{PlaceStep}
 use Rattle.dg_value.specs.declared.place.PlaceStep.TheVariants as step
 use Rattle.dg_value.specs.Places.{same_root, same_place, at_root}
-use Rattle.dg_report.specs.Packed.{number, step_code, untold, codes_of, numbers_of, told, step_of, left_of, all_steps, steps_of, root_in, codes_in, numbers_in, packed_eq, packed_equiv}
+use Rattle.dg_report.specs.Packed.{number, step_code, untold, codes_of, numbers_of, told, step_of, left_of, all_steps, steps_of, codes_in, numbers_in, packed_eq, packed_equiv}
 
 -- ---- a step comes back
 

@@ -1,5 +1,5 @@
 -- The line of a reply, from its parts.
-use Rattle.std.proofs.Common.{◌≡◌, ℕ, zero, suc, ◌+◌, ◌-◌, List, [], ◌∷◌, ◌++◌, length, map, take, Option, Some, None, option_map, slice_get, codes, decimal, refl, sym, ap, ◌∙◌, ◌≤◌, append_assoc, length-append, arith}
+use Rattle.std.proofs.Common.{◌≡◌, ℕ, zero, suc, ◌+◌, ◌-◌, List, [], ◌∷◌, ◌++◌, length, map, take, Option, Some, None, option_map, slice_get, codes, decimal, refl, sym, ap, ◌∙◌, ◌≤◌, length-append, arith}
 use Rattle.std.specs.Prelude.{IsSome}
 use Rattle.std.specs.Option.{option_map_or}
 use Rattle.dg_lex.specs.Bytes.{Bytes, line_end}
