@@ -12,11 +12,6 @@ eval_ask-requires-clause-fit g c = record {
   closed = scope_closed g.D.RunsDoc.document c.requires.context.accepted c.uses_end.ensures.exact;
 }
 
-pub eval_ask-requires-clause-ask : goal.eval_ask-requires-clause-ask
-eval_ask-requires-clause-ask g c =
-    let next : c.args.index + 1 ≡ suc c.args.index = omega arith in
-    rw next (is_numbered g.D.RunsDoc.document c.args.index c.args.ask.now c.requires.ask)
-
 pub eval_ask-requires-clause-can : goal.eval_ask-requires-clause-can
 eval_ask-requires-clause-can g c =
     let doc = g.D.RunsDoc.document in
