@@ -37,7 +37,8 @@ rows_are doc asks cells a c =
 
 pub jobs_whole : (doc : Doc) (plan : Plan) (world : World) (s : Session)
     → IsContextOf doc plan world → s ≡ session_of doc → (cells keys : List CellName)
-    → cells ≡ all_cells plan.slots world.class → keys ≡ with_cells [] cells → (rows all : List (List ℕ))
+    → cells ≡ all_cells plan.slots world.class → keys ≡ with_cells [] cells
+    → (rows all : List (List ℕ))
     → (IsTable doc (length s.asks) keys → rows ≡ map (needed_by_ask doc) s.asks)
     → (IsTable doc (length s.asks) keys → AreProducers doc cells
     → all ≡ rows ++ map (needed_by doc) cells)

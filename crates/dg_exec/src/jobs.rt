@@ -181,7 +181,7 @@ fn add_needed_by_cells(
     Ok(())
 }
 
-/// The jobs of a document, over its world. They are fewer than 2^32, as in `number`.
+/// The jobs of a document, over its world. 2^32 jobs or more are a lack of memory, as in `number`.
 fn jobs_over(alloc: Global, plan: &Plan, world: &World, session: &Session) -> Result<Jobs, NoMemory>
     ensures exact { IfOk result (λ jobs. (doc : Doc) → IsContextOf doc plan.now world.now
         → session.now ≡ session_of doc
@@ -208,7 +208,8 @@ fn jobs_over(alloc: Global, plan: &Plan, world: &World, session: &Session) -> Re
     Ok(Jobs { inputs, cells })
 }
 
-/// The jobs of an accepted document, of which these are the plan, the session and the links.
+/// The jobs of an accepted document, of which these are the plan, the session and the links. Their
+/// inputs are such as the core of jobs takes.
 pub fn jobs_of(alloc: Global, p: &Plan, s: &Session, links: &[Items<u32>]) -> Result<Jobs, NoMemory>
     ensures exact { IfOk result (λ jobs. (doc : Doc) → IsAccepted doc → p.now ≡ plan_of doc
         → s.now ≡ session_of doc → links.now ≡ links_of doc
