@@ -66,7 +66,8 @@ back first other n make ns within small large left = by (nat_lt n 32) refl
         × (left_of (if nat_lt n 32 then first + n else other) (untold n ++ ns) ≡ ns)
     by true e =
         let lt : n < 32 = ltb-true n 32 e in
-        let tells : nat_lt (first + n) 192 ≡ true = less (first + n) 192 (omega (arith, lt, within)) in
+        let tells : nat_lt (first + n) 192 ≡ true =
+        less (first + n) 192 (omega (arith, lt, within)) in
         rw e (rw tells (small lt, refl))
     by false e = rw e (large n ns, left n ns)
 

@@ -129,14 +129,6 @@ cut_long start t new within long e =
     ∙ append_assoc (take start t) (take print_limit (drop start t)) (codes "..")
     ∙ ap (λ (b : Bool). take start t ++ (if b then take print_limit (drop start t) ++ codes ".." else drop start t)) (sym over)
 
-pub cut_short : (start : ℕ) (t : Bytes) → start ≤ length t → length t - start ≤ print_limit
-    → t ≡ take start t ++ cut (drop start t)
-cut_short start t within short =
-    let more = left_over start t within in
-    let under : nat_lt print_limit (length (drop start t)) ≡ false = le-ltb print_limit (length (drop start t)) (omega arith) in
-    sym (both_parts start t)
-    ∙ ap (λ (b : Bool). take start t ++ (if b then take print_limit (drop start t) ++ codes ".." else drop start t)) (sym under)
-
 -- what is cut behind a text
 pub cut_behind : (front t : Bytes) → take (length front) (front ++ t) ++ cut (drop (length front) (front ++ t)) ≡ front ++ cut t
 cut_behind front t =
@@ -155,14 +147,4 @@ unfolding with_cut
 cut_made text new seen before start limit o is within long e =
     let here : start ≤ length text = subst (λ (x : Output). start ≤ length x.text) (sym is) within in
     ap (λ (t : Bytes). output t seen before None) (cut_long start text new here long e)
-    ∙ ap (with_cut start) is
-
-pub uncut : (text : Bytes) (seen before : List Place) (start : ℕ) (limit : Option ℕ) (o : Output)
-    → record { text = text; seen = seen; before = before; limit = limit } ≡ o
-    → start ≤ length o.text → length text - start ≤ print_limit
-    → record { text = text; seen = seen; before = before; limit = None } ≡ with_cut start o
-unfolding with_cut
-uncut text seen before start limit o is within short =
-    let here : start ≤ length text = subst (λ (x : Output). start ≤ length x.text) (sym is) within in
-    ap (λ (t : Bytes). output t seen before None) (cut_short start text here short)
     ∙ ap (with_cut start) is

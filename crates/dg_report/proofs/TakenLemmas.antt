@@ -47,7 +47,8 @@ taken_both (Some limit) front a b =
     let room : ℕ = limit - length front in
     let joined = length-append front (take room a) in
     let left = room_left room a in
-    let same : limit - length (front ++ take room a) ≡ room - length a = omega (arith, joined, left) in
+    let same : limit - length (front ++ take room a) ≡ room - length a =
+    omega (arith, joined, left) in
     ap (λ (k : ℕ). (front ++ take room a) ++ take k b) same
     ∙ append_assoc front (take room a) (take (room - length a) b)
     ∙ ap (λ (t : Bytes). front ++ t) (take_both room a b)

@@ -112,7 +112,6 @@ impl Output {
     }
 
     /// Appends these bytes.
-    #[tactic(auto, unfolding(crate::specs::Output::with_text))]
     pub(crate) fn push(&mut self, bytes: &[u8]) -> Result<(), NoMemory>
         ensures exact { OnOk result (self.new ≡ spec.with_text self.old bytes.now) }
         ensures kept { self.new.before ≡ self.old.before }
@@ -124,7 +123,6 @@ impl Output {
     }
 
     /// Appends a text in quotes.
-    #[tactic(auto, unfolding(crate::specs::Output::with_text, dg_types::specs::Texts::quoted, dg_lex::specs::Lexemes::quoted))]
     pub(crate) fn push_quoted(&mut self, text: &[u8]) -> Result<(), NoMemory>
         ensures exact { OnOk result (self.new ≡ spec.with_text self.old (quoted text.now)) }
         ensures kept { self.new.before ≡ self.old.before }
@@ -136,7 +134,6 @@ impl Output {
     }
 
     /// Appends the key of an entry of a map.
-    #[tactic(auto, unfolding(crate::specs::Output::with_text))]
     pub(crate) fn push_key(&mut self, key: &MapKeyVal) -> Result<(), NoMemory>
         ensures exact { OnOk result (self.new ≡ spec.with_text self.old (map_key_text key.now)) }
         ensures kept { self.new.before ≡ self.old.before }
@@ -148,7 +145,6 @@ impl Output {
     }
 
     /// Appends an integer in decimal.
-    #[tactic(auto, unfolding(crate::specs::Output::with_text))]
     pub(crate) fn push_integer(&mut self, n: i64) -> Result<(), NoMemory>
         ensures exact { OnOk result (self.new ≡ spec.with_text self.old (signed_decimal n)) }
         ensures kept { self.new.before ≡ self.old.before }
@@ -158,7 +154,6 @@ impl Output {
     }
 
     /// Appends a number in decimal.
-    #[tactic(auto, unfolding(crate::specs::Output::with_text))]
     pub(crate) fn push_decimal(&mut self, n: usize) -> Result<(), NoMemory>
         ensures exact { OnOk result (self.new ≡ spec.with_text self.old (decimal n)) }
         ensures kept { self.new.before ≡ self.old.before }

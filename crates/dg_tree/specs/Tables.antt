@@ -73,8 +73,8 @@ pub record IsStore (doc : Doc) (cs : Cells) (ls : Lazies) (n m : ℕ) (notes : L
 
 -- ---- steps
 
--- A cell or Lazy was looked up. Where it is held it is asked for, and its content is given; where it
--- isn't, it wasn't asked for before.
+-- A cell or Lazy was looked up. Where it is held it is asked for, and its content is given; where
+-- it isn't, it wasn't asked for before.
 abbrev pub LooksUp : Doc → Asked → List Asked → List Asked → Result (Option Kept) NoMemory → Type 0
 LooksUp doc x old new (Ok (Some kept)) = IsContent doc x kept × (new ≡ old ++ x ∷ [])
 LooksUp doc x old new (Ok None) = (Contains old x → ⊥) × (new ≡ old)

@@ -6,8 +6,9 @@ use Rattle.dg_report.proofs.output.keep_within.Goals as goal
 pub returns-in-Some : goal.returns-in-Some
 returns-in-Some c = record {
   exact = λ front t at is.
-      some_taken c.in-Some.limit c.args.start front t c.args.text.now.items c.truncate.new.self.items
-      at is (c.truncate.ensures.items ∙ ap (λ k. take k c.args.text.now.items) c.max.ensures)
+      some_taken c.in-Some.limit c.args.start front t c.args.text.now.items
+      c.truncate.new.self.items at is
+      (c.truncate.ensures.items ∙ ap (λ k. take k c.args.text.now.items) c.max.ensures)
       ∙ ap (λ l. taken l front t) (sym c.in-Some.is);
 }
 

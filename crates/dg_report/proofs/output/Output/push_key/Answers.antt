@@ -8,5 +8,5 @@ returns-clause-exact c =
     text_taken c.self.inside.text.items c.keep_within.new.text.items (map_key_text c.args.key.now)
     c.self.inside.places.keys (take c.self.inside.before c.self.inside.places.keys)
     c.self.inside.limit c.args.self.now c.self.view_is
-    (c.keep_within.ensures.exact c.self.inside.text.items (map_key_text c.args.key.now) (omega arith)
-    c.in_ok-push_map_key_text.ensures.exact)
+    (c.keep_within.ensures.exact c.self.inside.text.items (map_key_text c.args.key.now)
+    (omega arith) c.in_ok-push_map_key_text.ensures.exact)
