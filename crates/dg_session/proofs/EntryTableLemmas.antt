@@ -164,7 +164,7 @@ pub places_none : (doc : Doc) (table : Table) → table ≡ [] → HasPlaces doc
 places_none doc table empty = record { each = λ n. ap (place_in n) empty }
 
 pub places_more : (doc : Doc) (entries : List ℕ) (k : ℕ) (x : ℕ) (old new : Table)
-    → k < length entries → x ≡ get_or entries k x → HasPlaces doc (take k entries) old
+    → k < length entries → x ≡ get_or entries k 0 → HasPlaces doc (take k entries) old
     → Notes doc x k old new → HasPlaces doc (take (k + 1) entries) new
 places_more doc entries k x old new lt at has notes = record {
   each = λ n.
@@ -173,7 +173,7 @@ places_more doc entries k x old new lt at has notes = record {
       ∙ ap (λ (o : Option ℕ). option_or o (if p x then Some k else None)) (has.each n)
       ∙ sym (position_push p (take k entries) x k (length-take-le k entries (omega (arith, lt))))
       ∙ ap (λ y. position p (take k entries ++ y ∷ [])) at
-      ∙ ap (position p) (sym (take_more entries k x lt));
+      ∙ ap (position p) (sym (take_more entries k 0 lt));
 }
 
 -- ---- all classes
@@ -184,7 +184,7 @@ knows_none doc tables empty = record {
   each = λ c n. ap (λ (ts : List Table). option_and_then (place_in n) (slice_get ts c)) empty;
 }
 
-entries_at : List Class → ℕ → List ℕ
+abbrev entries_at : List Class → ℕ → List ℕ
 entries_at rows c = option_map_or (λ r. r.entries) (slice_get rows c) []
 
 push_each : (doc : Doc) (rows : List Class) (tables : List Table) (row : Class) (table : Table)
