@@ -7,5 +7,5 @@ returns c = record {
   exact = c.in_ok-number.ensures.exact ∙ c.place_on_chain.ensures.exact
       ∙ ap (λ (l : List ℕ). unwrap_or (position (λ x. x == c.args.above) l) 0)
       (chain_there c.args.dependencies.now c.as_slice-classes.result.now c.args.class
-      (c.as_slice-classes.ensures ∙ c.tree-classes.ensures.exact));
+      (c.as_slice-classes.ensures ∙ c.tree.ensures.exact));
 }
