@@ -54,7 +54,13 @@ fn place_above(
     if class == above {
         return Some(place);
     }
-    place_above(classes, parent_at(classes, class), above, steps - 1, place + 1)
+    place_above(
+        classes,
+        parent_at(classes, class),
+        above,
+        steps - 1,
+        place + 1,
+    )
 }
 
 /// How many parents up a class stands on the chain of another one, and 0 where it isn't there.
@@ -70,11 +76,7 @@ fn place_on_chain(classes: &[Class], class: u32, above: u32) -> usize
 }
 
 /// How many parents up a class stands on the chain of another one. It allocates nothing.
-pub fn level_of(
-    dependencies: &Dependencies<'_>,
-    class: u32,
-    above: u32,
-) -> Result<u32, NoMemory>
+pub fn level_of(dependencies: &Dependencies<'_>, class: u32, above: u32) -> Result<u32, NoMemory>
     ensures exact { IfOk result (λ level. level ≡ spec.level_of dependencies.now class above) }
 {
     let classes = dependencies.tree().classes.as_slice();
