@@ -1,8 +1,8 @@
 //! Each row has what it shows, the number of the class that looks up (0 to 7 are Hilt's, 8 is the
-//! first that the document declares), a type whose key is looked up, and what is found. That is
-//! told by numbers of owners and of lines: `8 member 10` is the member of line 10, owned by class 8.
+//! first that is declared), a type whose key is looked up, and what is found, by the numbers of
+//! owners and lines: `8 member 10` is the member of line 10, owned by class 8.
 
-ghost use Rattle.std.specs.Prelude.{◌≡◌, ◌×◌, [], true, IfOk};
+ghost use Rattle.std.specs.Prelude.{◌≡◌, IfOk};
 ghost use Rattle.dg_decl.specs.Bounds.{IsBounded};
 ghost use Rattle.dg_decl.specs.Components.{component_classes};
 ghost use Rattle.dg_decl.specs.Diagnostics.{PassesDependencies};
@@ -10,103 +10,55 @@ ghost use Rattle.dg_decl.specs.Diagnostics.{PassesDependencies};
 use dg_binds::bindings;
 use dg_compdep::{depends, exposed};
 use dg_comps::tree;
-use dg_decl::{BindRef, CompTree, Doc, Found, Item, Owned, Violation};
+use dg_decl::{BindRef, CompTree, Doc, Found, Item, Owned};
 use dg_reader::read_doc;
 use dg_resolve::find;
-use dg_types::{Key, NoMemory, request_of};
+use dg_types::{Key, request_of};
 use dg_typing::{names, types};
 use std::alloc::{AllocError, Global};
 use std::process::Abort;
 use std::test::Fail;
 
-/// Why nothing can be looked up.
-#[derive(Clone, Copy, Debug)]
-enum Unfit {
-    NoMemory,
-    Unread,
-    Names,
-    Types,
-    Components,
-    Dependencies,
-    Key,
-    Class,
-}
-
-impl From<NoMemory> for Unfit {
-    fn from(_: NoMemory) -> Unfit {
-        Unfit::NoMemory
-    }
-}
-
-impl From<AllocError> for Unfit {
-    fn from(_: AllocError) -> Unfit {
-        Unfit::NoMemory
-    }
-}
-
-fn read(alloc: Global, text: &str) -> Result<Doc, Unfit>
+fn read(rt: &impl Abort, alloc: Global, text: &str) -> Result<Doc, Fail>
     ensures bounded { IfOk result IsBounded }
 {
-    if text.len() > 4194304 {
-        return Err(Unfit::Unread);
-    }
-    match read_doc(alloc, text.as_bytes()) {
-        Ok(d) => Ok(d),
-        Err(_) => Err(Unfit::Unread),
-    }
+    assert!(rt; text.len() <= 4194304);
+    let d = read_doc(alloc, text.as_bytes())?;
+    Ok(d)
 }
 
 /// The key that a use of this type requests.
-fn key_of(alloc: Global, shape: &str) -> Result<Key, Unfit> {
+fn key_of(rt: &impl Abort, alloc: Global, shape: &str) -> Result<Key, Fail> {
     let text = format!(in alloc; "class Wanted(key: {shape})\n")?;
-    let d = read(alloc, text.as_str())?;
+    let d = read(rt, alloc, text.as_str())?;
     let Some(Item::Class { params, .. }) = d.items.get(0) else {
-        return Err(Unfit::Key);
+        panic!(rt; "no class");
     };
-    let Some(param) = params.get(0) else {
-        return Err(Unfit::Key);
-    };
-    match request_of(alloc, &param.shape)? {
-        Some(request) => Ok(request.key),
-        None => Err(Unfit::Key),
-    }
-}
-
-/// Whether a stage finds nothing.
-fn is_clean(broken: &[Violation]) -> bool
-    ensures nothing { result ≡ true → broken.now ≡ [] }
-{
-    broken.is_empty()
+    let param = params.get(0).ok_or("no parameter")?;
+    let request = request_of(alloc, &param.shape)?.ok_or("no key")?;
+    Ok(request.key)
 }
 
 /// The component classes of a document that passes the first four stages.
-fn classes_of(alloc: Global, d: &Doc) -> Result<CompTree, Unfit>
+fn classes_of(rt: &impl Abort, alloc: Global, d: &Doc) -> Result<CompTree, Fail>
     requires bounded { IsBounded d.now }
     ensures passes { IfOk result (λ t. PassesDependencies d.now) }
     ensures classes { IfOk result (λ t. t.classes ≡ component_classes d.now) }
 {
-    if !is_clean(names(alloc, d)?.as_slice()) {
-        return Err(Unfit::Names);
-    }
-    if !is_clean(types(alloc, d)?.as_slice()) {
-        return Err(Unfit::Types);
-    }
+    assert!(rt; names(alloc, d)?.is_empty(), "names");
+    assert!(rt; types(alloc, d)?.is_empty(), "types");
     let Ok(t) = tree(alloc, d) else {
-        return Err(Unfit::Components);
+        panic!(rt; "components");
     };
-    if !is_clean(depends(alloc, d, &t)?.as_slice()) {
-        return Err(Unfit::Dependencies);
-    }
+    assert!(rt; depends(alloc, d, &t)?.is_empty(), "dependencies");
     Ok(t)
 }
 
-fn found(alloc: Global, d: &Doc, class: u32, key: &Key) -> Result<Found, Unfit>
+fn found(rt: &impl Abort, alloc: Global, d: &Doc, class: u32, key: &Key) -> Result<Found, Fail>
     requires bounded { IsBounded d.now }
 {
-    let t = classes_of(alloc, d)?;
-    if class as usize >= t.classes.len() {
-        return Err(Unfit::Class);
-    }
+    let t = classes_of(rt, alloc, d)?;
+    assert!(rt; (class as usize) < t.classes.len());
     let b = bindings(alloc, d)?;
     let x = exposed(alloc, d, &t)?;
     let found = find(alloc, d, &t, b.as_slice(), class, key, x.as_slice())?;
@@ -151,54 +103,55 @@ fn told(alloc: Global, d: &Doc, found: &Found) -> Result<String, AllocError> {
     }
 }
 
-fn finds(
-    rt: &impl Abort,
-    alloc: Global,
-    text: &str,
-    rows: &[(&str, u32, &str, &str)],
-) -> Result<(), Fail> {
-    let d = read(alloc, text)?;
+type Row<'a> = (&'a str, u32, &'a str, &'a str);
+
+fn finds(rt: &impl Abort, alloc: Global, text: &str, rows: &[Row<'_>]) -> Result<(), Fail> {
+    let d = read(rt, alloc, text)?;
     for (shows, class, shape, expected) in rows {
-        let key = key_of(alloc, shape)?;
-        let found = told(alloc, &d, &found(alloc, &d, *class, &key)?)?;
+        let key = key_of(rt, alloc, shape)?;
+        let found = told(alloc, &d, &found(rt, alloc, &d, *class, &key)?)?;
         assert_eq!(rt; found.as_str(), *expected, "{shows}");
     }
     Ok(())
 }
 
 #[test]
-fn bindings_and_injected_classes(rt: HostRuntime) -> Result<(), Fail> {
+fn bindings_injected_classes_and_exposed_entries(rt: HostRuntime) -> Result<(), Fail> {
     let text = r#"scope S
-scope T
 @Inject class Db(url: Text)
 @Inject @S class Repo()
-@Inject @T class Page()
-module Q {
-  provides q() : Text = "q"
-}
 module P {
   provides db() : Db = new Db("u")
   provides p() : Text = "p"
 }
+component Lib {
+  entry t : Text
+  entry s : Service
+}
 @S component App modules P {
-  bindsInstance n : Int
+  dependsOn Lib
 }
-@T component Act in App modules Q {
-}
-@T component Other {
+component Act in App {
 }
 "#;
     let rows = [
-        ("a binding stands in place of a class", 9, "Db", "8 member 10"),
-        ("else the class is of who asks", 10, "Db", "10 class 3"),
-        ("a qualified key is no class", 10, "@Io Db", "nothing"),
-        ("the root's comes first", 9, "Text", "many, 8 member 11, 9 member 7"),
-        ("a parent doesn't see its child", 8, "Text", "8 member 11"),
-        ("a child sees a bound instance", 9, "Int", "8 argument 0"),
-        ("the parent carries the scope", 9, "Repo", "8 class 4"),
-        ("the class itself carries it", 9, "Page", "9 class 5"),
-        ("only a child carries it", 8, "Page", "bad scope 5"),
-        ("none of the chain carries it", 10, "Repo", "bad scope 4"),
+        ("a binding in place of a class", 9, "Db", "9 member 5"),
+        ("else the class, of who asks", 8, "Db", "8 class 2"),
+        ("the nearest with the scope", 10, "Repo", "9 class 3"),
+        ("none of the chain has the scope", 8, "Repo", "bad scope 3"),
+        (
+            "exposed, from a child",
+            10,
+            "Service",
+            "9 dependency 0 entry 10",
+        ),
+        (
+            "beside a binding",
+            9,
+            "Text",
+            "many, 9 member 6, 9 dependency 0 entry 9",
+        ),
+        ("own entries bind nothing", 8, "Service", "nothing"),
     ];
     finds(&rt, rt.alloc(), text, &rows)
 }
@@ -208,7 +161,7 @@ fn sets_maps_and_optionals(rt: HostRuntime) -> Result<(), Fail> {
     let text = r#"module Q {
   @IntoSet provides c() : Text = "c"
   bindsOptionalOf t : Text
-  provides u() : Text = "u"
+  provides n() : Int = 2
 }
 module P {
   @IntoSet provides a() : Text = "a"
@@ -216,6 +169,7 @@ module P {
   @IntoMap @StringKey("k") provides k() : Int = 1
   bindsOptionalOf t : Text
   multibinds none : Set<Int>
+  provides n() : Int = 1
 }
 component App modules P {
 }
@@ -223,106 +177,89 @@ component Act in App modules Q {
 }
 "#;
     let rows = [
-        ("two contributions", 8, "Set<Text>", "set, 8 member 7, 8 member 8"),
-        ("a child adds one", 9, "Set<Text>", "set, 8 member 7, 8 member 8, 9 member 2"),
-        ("as values", 9, "Set<Produced<Text>>", "set, 8 member 7, 8 member 8, 9 member 2"),
-        ("a map of Providers", 9, "Map<Text,Provider<Int>>", "map, 8 member 9"),
-        ("other map keys", 9, "Map<Int,Int>", "nothing"),
-        ("a declared set", 9, "Set<Int>", "set"),
-        ("absent, yet declared", 8, "Optional<Text>", "optional"),
-        ("declared twice", 9, "Optional<Provider<Text>>", "optional"),
-        ("not declared", 9, "Optional<Int>", "nothing"),
-        ("the inside is not bound", 8, "Text", "nothing"),
-        ("the inside is bound", 9, "Text", "9 member 4"),
+        (
+            "two contributions",
+            8,
+            "Set<Text>",
+            "set, 8 member 7, 8 member 8",
+        ),
+        (
+            "a child's too",
+            9,
+            "Set<Text>",
+            "set, 8 member 7, 8 member 8, 9 member 2",
+        ),
+        (
+            "of Produced",
+            9,
+            "Set<Produced<Text>>",
+            "set, 8 member 7, 8 member 8, 9 member 2",
+        ),
+        (
+            "of Providers",
+            9,
+            "Map<Text,Provider<Int>>",
+            "map, 8 member 9",
+        ),
+        ("declared and empty", 9, "Set<Int>", "set"),
+        (
+            "declared, its inside unbound",
+            8,
+            "Optional<Text>",
+            "optional",
+        ),
+        ("declared in both", 9, "Optional<Lazy<Text>>", "optional"),
+        ("the inside", 8, "Text", "nothing"),
+        (
+            "the root's binding first",
+            9,
+            "Int",
+            "many, 8 member 12, 9 member 4",
+        ),
     ];
     finds(&rt, rt.alloc(), text, &rows)
 }
 
 #[test]
-fn includes(rt: HostRuntime) -> Result<(), Fail> {
-    let text = r#"module Shared includes Shared {
-  provides t() : Text = "t"
-}
-module Left includes Shared, Right {
-}
-module Right includes Shared, Left {
-  provides n() : Int = 1
-}
-component App modules Left {
-}
-component Act in App modules Right {
-}
-"#;
-    let rows = [
-        ("by two includes", 8, "Text", "8 member 2"),
-        ("in a cycle", 8, "Int", "8 member 7"),
-        ("not installed again", 9, "Text", "8 member 2"),
-        ("nor where it is named", 9, "Int", "8 member 7"),
-    ];
-    finds(&rt, rt.alloc(), text, &rows)
-}
-
-#[test]
-fn replaced_modules_and_default_bindings(rt: HostRuntime) -> Result<(), Fail> {
+fn modules_and_default_bindings(rt: HostRuntime) -> Result<(), Fail> {
     let text = r#"@InstallIn(SingletonComponent) module Real includes Deep {
   provides t() : Text = "real"
-}
-module Deep {
-  provides n() : Int = 1
-}
-module Top includes Real {
-  provides s() : Service = new Service("s")
 }
 @TestInstallIn(SingletonComponent) module Fake replaces Real {
   provides t() : Text = "fake"
   provides a() : Application = new Application("a")
 }
+module Deep {
+  provides n() : Int = 1
+}
+module Top includes Real, Side, Shared {
+}
+module Side includes Top, Shared {
+}
+module Shared {
+  provides s() : Service = new Service("s")
+}
 component App modules Top {
+}
+component Act in App modules Shared {
 }
 component ByName modules Real {
 }
 "#;
     let rows = [
-        ("a test module", 0, "Text", "0 member 11"),
-        ("what the replaced one includes", 0, "Int", "nothing"),
-        ("before a replaced one", 8, "Service", "8 member 8"),
+        ("a test module", 0, "Text", "0 member 5"),
+        ("replaced by name", 10, "Text", "nothing"),
         ("replaced in the middle", 8, "Text", "nothing"),
-        ("behind a replaced one", 8, "Int", "nothing"),
-        ("replaced by name", 9, "Text", "nothing"),
-        ("a default binding", 4, "Activity", "4 default"),
-        ("a parent's default binding", 5, "Activity", "4 default"),
-        ("beside another one", 5, "Application", "many, 0 default, 0 member 12"),
-        ("not of this chain", 8, "Activity", "nothing"),
-    ];
-    finds(&rt, rt.alloc(), text, &rows)
-}
-
-#[test]
-fn exposed_entries(rt: HostRuntime) -> Result<(), Fail> {
-    let text = r#"module Before {
-  provides t() : Text = "t"
-}
-component Lib {
-  entry t : Text
-  entry n : Int
-  entry s : Service
-  entry v : Provider<View>
-}
-component App modules Before, After {
-  dependsOn Lib
-}
-component Act in App {
-}
-module After {
-  provides n() : Int = 1
-}
-"#;
-    let rows = [
-        ("alone, from a child", 10, "Service", "9 dependency 0 entry 7"),
-        ("behind a binding", 9, "Text", "many, 9 member 2, 9 dependency 0 entry 5"),
-        ("before a binding", 9, "Int", "many, 9 dependency 0 entry 6, 9 member 16"),
-        ("a Provider isn't exposed", 9, "View", "nothing"),
-        ("a class has no own entry", 8, "Service", "nothing"),
+        ("behind a replaced module", 8, "Int", "nothing"),
+        ("by two includes and a cycle", 8, "Service", "8 member 16"),
+        ("not installed again", 9, "Service", "8 member 16"),
+        ("a default binding", 5, "Activity", "4 default"),
+        (
+            "beside a binding",
+            5,
+            "Application",
+            "many, 0 default, 0 member 6",
+        ),
     ];
     finds(&rt, rt.alloc(), text, &rows)
 }
