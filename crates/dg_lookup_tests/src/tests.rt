@@ -1,6 +1,6 @@
 //! Each row has what it shows, the number of the class that looks up (0 to 7 are Hilt's, 8 is the
-//! first that is declared), a type whose key is looked up, and what is found, by the numbers of
-//! owners and lines: `8 member 10` is the member of line 10, owned by class 8.
+//! first that is declared), a type whose key is looked up, and what is found: `8:10` is the member
+//! of line 10, owned by class 8, and `9:0:10` the entry of line 10, exposed by dependency 0.
 
 ghost use Rattle.std.specs.Prelude.{◌≡◌, IfOk};
 ghost use Rattle.dg_decl.specs.Bounds.{IsBounded};
@@ -54,6 +54,7 @@ fn classes_of(rt: &impl Abort, alloc: Global, d: &Doc) -> Result<CompTree, Fail>
     Ok(t)
 }
 
+#[tactic(auto, using(crate::proofs::ClassLemmas::class_within))]
 fn found(rt: &impl Abort, alloc: Global, d: &Doc, class: u32, key: &Key) -> Result<Found, Fail>
     requires bounded { IsBounded d.now }
 {
@@ -72,20 +73,18 @@ fn line(d: &Doc, item: u32) -> u32 {
 
 fn owned(alloc: Global, d: &Doc, owner: u32, binding: BindRef) -> Result<String, AllocError> {
     match binding {
-        BindRef::Member(item) => format!(in alloc; "{owner} member {}", line(d, item)),
-        BindRef::ClassItem(item) => format!(in alloc; "{owner} class {}", line(d, item)),
-        BindRef::Arg(index) => format!(in alloc; "{owner} argument {index}"),
-        BindRef::Default => format!(in alloc; "{owner} default"),
-        BindRef::Exposed { dep, entry } => {
-            format!(in alloc; "{owner} dependency {dep} entry {}", line(d, entry))
-        }
+        BindRef::Member(item) => format!(in alloc; "{owner}:{}", line(d, item)),
+        BindRef::ClassItem(item) => format!(in alloc; "class {owner}:{}", line(d, item)),
+        BindRef::Arg(index) => format!(in alloc; "argument {owner}:{index}"),
+        BindRef::Default => format!(in alloc; "default {owner}"),
+        BindRef::Exposed { dep, entry } => { format!(in alloc; "{owner}:{dep}:{}", line(d, entry)) }
     }
 }
 
 fn several(alloc: Global, d: &Doc, what: &str, all: &[Owned]) -> Result<String, AllocError> {
     let mut text = String::from_str(alloc, what)?;
     for each in all {
-        text.push_str(", ")?;
+        text.push_str(" ")?;
         text.push_str(owned(alloc, d, each.owner, each.binding)?.as_str())?;
     }
     Ok(text)
@@ -135,22 +134,12 @@ component Act in App {
 }
 "#;
     let rows = [
-        ("a binding in place of a class", 9, "Db", "9 member 5"),
-        ("else the class, of who asks", 8, "Db", "8 class 2"),
-        ("the nearest with the scope", 10, "Repo", "9 class 3"),
+        ("a binding in place of a class", 9, "Db", "9:5"),
+        ("else the class, of who asks", 8, "Db", "class 8:2"),
+        ("the nearest with the scope", 10, "Repo", "class 9:3"),
         ("none of the chain has the scope", 8, "Repo", "bad scope 3"),
-        (
-            "exposed, from a child",
-            10,
-            "Service",
-            "9 dependency 0 entry 10",
-        ),
-        (
-            "beside a binding",
-            9,
-            "Text",
-            "many, 9 member 6, 9 dependency 0 entry 9",
-        ),
+        ("exposed, from a child", 10, "Service", "9:0:10"),
+        ("beside a binding", 9, "Text", "many 9:6 9:0:9"),
         ("own entries bind nothing", 8, "Service", "nothing"),
     ];
     finds(&rt, rt.alloc(), text, &rows)
@@ -177,30 +166,10 @@ component Act in App modules Q {
 }
 "#;
     let rows = [
-        (
-            "two contributions",
-            8,
-            "Set<Text>",
-            "set, 8 member 7, 8 member 8",
-        ),
-        (
-            "a child's too",
-            9,
-            "Set<Text>",
-            "set, 8 member 7, 8 member 8, 9 member 2",
-        ),
-        (
-            "of Produced",
-            9,
-            "Set<Produced<Text>>",
-            "set, 8 member 7, 8 member 8, 9 member 2",
-        ),
-        (
-            "of Providers",
-            9,
-            "Map<Text,Provider<Int>>",
-            "map, 8 member 9",
-        ),
+        ("two contributions", 8, "Set<Text>", "set 8:7 8:8"),
+        ("a child's too", 9, "Set<Text>", "set 8:7 8:8 9:2"),
+        ("of Produced", 9, "Set<Produced<Text>>", "set 8:7 8:8 9:2"),
+        ("of Providers", 9, "Map<Text,Provider<Int>>", "map 8:9"),
         ("declared and empty", 9, "Set<Int>", "set"),
         (
             "declared, its inside unbound",
@@ -210,12 +179,7 @@ component Act in App modules Q {
         ),
         ("declared in both", 9, "Optional<Lazy<Text>>", "optional"),
         ("the inside", 8, "Text", "nothing"),
-        (
-            "the root's binding first",
-            9,
-            "Int",
-            "many, 8 member 12, 9 member 4",
-        ),
+        ("the root's binding first", 9, "Int", "many 8:12 9:4"),
     ];
     finds(&rt, rt.alloc(), text, &rows)
 }
@@ -247,19 +211,14 @@ component ByName modules Real {
 }
 "#;
     let rows = [
-        ("a test module", 0, "Text", "0 member 5"),
+        ("a test module", 0, "Text", "0:5"),
         ("replaced by name", 10, "Text", "nothing"),
         ("replaced in the middle", 8, "Text", "nothing"),
         ("behind a replaced module", 8, "Int", "nothing"),
-        ("by two includes and a cycle", 8, "Service", "8 member 16"),
-        ("not installed again", 9, "Service", "8 member 16"),
-        ("a default binding", 5, "Activity", "4 default"),
-        (
-            "beside a binding",
-            5,
-            "Application",
-            "many, 0 default, 0 member 6",
-        ),
+        ("by two includes and a cycle", 8, "Service", "8:16"),
+        ("not installed again", 9, "Service", "8:16"),
+        ("a default binding", 5, "Activity", "default 4"),
+        ("beside a binding", 5, "Application", "many default 0 0:6"),
     ];
     finds(&rt, rt.alloc(), text, &rows)
 }
