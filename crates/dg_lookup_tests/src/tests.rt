@@ -2,7 +2,7 @@
 //! first that is declared), a type whose key is looked up, and what is found: `8:10` is the member
 //! of line 10, owned by class 8, and `9:0:10` the entry of line 10, exposed by dependency 0.
 
-ghost use Rattle.std.specs.Prelude.{◌≡◌, IfOk};
+ghost use Rattle.std.specs.Prelude.{◌≡◌, ◌<◌, length, IfOk};
 ghost use Rattle.dg_decl.specs.Bounds.{IsBounded};
 ghost use Rattle.dg_decl.specs.Components.{component_classes};
 ghost use Rattle.dg_decl.specs.Diagnostics.{PassesDependencies};
@@ -13,7 +13,7 @@ use dg_comps::tree;
 use dg_decl::{BindRef, CompTree, Doc, Found, Item, Owned};
 use dg_reader::read_doc;
 use dg_resolve::find;
-use dg_types::{Key, request_of};
+use dg_types::{Key, NoMemory, request_of};
 use dg_typing::{names, types};
 use std::alloc::{AllocError, Global};
 use std::process::Abort;
@@ -54,15 +54,23 @@ fn classes_of(rt: &impl Abort, alloc: Global, d: &Doc) -> Result<CompTree, Fail>
     Ok(t)
 }
 
-#[tactic(auto, using(crate::proofs::ClassLemmas::class_within))]
+fn found_in(alloc: Global, d: &Doc, t: &CompTree, class: u32, key: &Key) -> Result<Found, NoMemory>
+    requires bounded { IsBounded d.now }
+    requires passes { PassesDependencies d.now }
+    requires classes { t.now.classes ≡ component_classes d.now }
+    requires within { class < length t.now.classes }
+{
+    let b = bindings(alloc, d)?;
+    let x = exposed(alloc, d, t)?;
+    find(alloc, d, t, b.as_slice(), class, key, x.as_slice())
+}
+
 fn found(rt: &impl Abort, alloc: Global, d: &Doc, class: u32, key: &Key) -> Result<Found, Fail>
     requires bounded { IsBounded d.now }
 {
     let t = classes_of(rt, alloc, d)?;
     assert!(rt; (class as usize) < t.classes.len());
-    let b = bindings(alloc, d)?;
-    let x = exposed(alloc, d, &t)?;
-    let found = find(alloc, d, &t, b.as_slice(), class, key, x.as_slice())?;
+    let found = found_in(alloc, d, &t, class, key)?;
     Ok(found)
 }
 
